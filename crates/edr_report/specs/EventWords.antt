@@ -1,15 +1,9 @@
 -- What the lines of an event show.
-use Rattle.std.specs.Prelude.{ℕ, Bool, None, List, map, decimal, get_or}
-use Rattle.std.specs.Option.{option_map_or}
-use Rattle.edr_record.specs.declared.Record.{Record}
-use Rattle.edr_record.specs.Parts.{PrePart, CrashPart}
-use Rattle.edr_record.specs.Complete.{is_complete}
-use Rattle.edr_report.specs.declared.event_lines.EventLine.{EventLine}
-use Rattle.edr_report.specs.declared.event_lines.EventLine.TheVariants.{Number, Bank, Before, After, Complete}
-use Rattle.edr_report.specs.declared.event_lines.PreLine.{PreLine}
-use Rattle.edr_report.specs.declared.event_lines.PreLine.TheVariants.{Cycle, TimeZero, Events, Between, Deployment, Profile, Speed, Throttle, Brake, Belt, Lamp}
-use Rattle.edr_report.specs.declared.event_lines.CrashLine.{CrashLine}
-use Rattle.edr_report.specs.declared.event_lines.CrashLine.TheVariants.{End, Along, Across, MaxAlong, MaxAcross, ResultAt, Missing, Fired}
+use Rattle.std.specs.{Prelude.{ℕ, Bool, None, List, map, decimal, get_or}, Option.option_map_or}
+use Rattle.edr_record.specs.{declared.Record.Record, Parts.{PrePart, CrashPart}, Complete.is_complete}
+use Rattle.edr_report.specs.declared.event_lines.EventLine.{EventLine, TheVariants.{Number, Bank, Before, After, Complete}}
+use Rattle.edr_report.specs.declared.event_lines.PreLine.{PreLine, TheVariants.{Cycle, TimeZero, Events, Between, Deployment, Profile, Speed, Throttle, Brake, Belt, Lamp}}
+use Rattle.edr_report.specs.declared.event_lines.CrashLine.{CrashLine, TheVariants.{End, Along, Across, MaxAlong, MaxAcross, ResultAt, Missing, Fired}}
 use Rattle.edr_report.specs.declared.event_lines.Restraint.{Restraint}
 use Rattle.edr_report.specs.declared.event_lines.Restraint.TheVariants as restraint
 use Rattle.edr_report.specs.Words.{none_word, yes_no, profile_word, number_or_none, switch_or_none, milliseconds, firing_words, shown_count, events_in_crash, time_between, spaced_words, points_words, extreme_words, missing_words}

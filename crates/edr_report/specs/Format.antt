@@ -1,9 +1,7 @@
 -- The lines that tell of a new image, and of what a reader saw of a cycle.
 use Rattle.std.specs.Prelude.{ℕ, List, ◌++◌, codes, decimal}
 use Rattle.edr_text.specs.Lines.{line_of}
-use Rattle.edr_image.specs.declared.Choice.{Choice}
-use Rattle.edr_image.specs.declared.Choice.TheVariants.{Keep, Overwrite}
-use Rattle.edr_image.specs.declared.Header.{Header}
+use Rattle.edr_image.specs.declared.{Choice.{Choice, TheVariants.{Keep, Overwrite}}, Header.Header}
 
 -- what is done with a new event where no bank is void
 abbrev pub choice_word : Choice → List ℕ

@@ -1,9 +1,7 @@
 pub mod Lines
 pub mod Words
-pub mod Values
 pub mod EventWords
 pub mod Report
-pub mod Forms
 pub mod Printed
 pub mod Format
 pub mod ImageWords

@@ -1,6 +1,8 @@
 -- A line of a report, and the bytes of both forms of a report.
-use Rattle.std.specs.Prelude.{ℕ, List, [], ◌∷◌, ◌++◌, flat_map, codes, decimal}
-use Rattle.csv.specs.Writing.{row_text, default_writer}
+use Rattle.std.specs.Prelude.{◌≡◌, ℕ, false, List, [], ◌∷◌, ◌++◌, Vec, flat_map, codes, decimal}
+use Rattle.std.specs.declared.alloc.Global.{Global}
+use Rattle.csv.specs.declared.writer.Writer.{Writer}
+use Rattle.csv.specs.Writing.{row_text, default_writer, writer_setup, fields_written, has_written, writer_under, writer_pending}
 use Rattle.edr_text.specs.Lines.{line_of}
 
 -- a line: the number of its block, its name and its value
@@ -31,3 +33,13 @@ text_of lines = flat_map text_line lines
 -- the table form of lines
 abbrev pub table_of : List Line → List ℕ
 table_of lines = table_head ++ flat_map table_row lines
+
+-- what went out of the writer's buffer, and what is in it
+abbrev pub table_bytes : Writer (Vec ℕ Global) → List ℕ
+table_bytes w = (writer_under w).items ++ writer_pending w
+
+-- the writer writes in its default form, and stands before a record
+pub record IsReadyForRecord (w : Writer (Vec ℕ Global)) : Type 0 where
+  pub setup : writer_setup w ≡ default_writer
+  pub fields : fields_written w ≡ 0
+  pub blank : has_written w ≡ false

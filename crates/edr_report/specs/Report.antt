@@ -1,20 +1,12 @@
--- The lines of a report.
+-- The lines of a report: of the cycles in block 0, of each event in a block of its own, and of damaged banks in block 0.
 use Rattle.std.specs.Prelude.{ℕ, Option, Some, None, List, [], ◌∷◌, ◌++◌, map, flat_map, filter_map, codes, decimal}
 use Rattle.std.specs.List.{enumerate_from}
 use Rattle.edr_record.specs.declared.Record.{Record}
-use Rattle.edr_image.specs.declared.Ack.{Ack}
-use Rattle.edr_image.specs.declared.BankView.{BankView}
-use Rattle.edr_image.specs.declared.BankView.TheVariants.{Void, Event, Damaged}
-use Rattle.edr_image.specs.declared.Found.{Found}
-use Rattle.edr_image.specs.Banks.{Store, retrieved_banks}
-use Rattle.edr_image.specs.Reports.{Report, StartStopped, Ran}
-use Rattle.edr_report.specs.declared.event_lines.EventLine.{EventLine}
-use Rattle.edr_report.specs.declared.event_lines.TheConstants.{LINES_OF_EVENT}
-use Rattle.edr_report.specs.EventWords.{event_words}
+use Rattle.edr_image.specs.declared.{Ack.Ack, BankView.{BankView, TheVariants.{Event, Damaged}}, Found.Found}
+use Rattle.edr_image.specs.{Banks.{Store, retrieved_banks}, Reports.{Report, StartStopped, Ran}}
+use Rattle.edr_report.specs.declared.event_lines.{EventLine.EventLine, TheConstants.LINES_OF_EVENT}
+use Rattle.edr_report.specs.{EventWords.event_words, Lines.{Line, line, text_of, table_of}}
 use Rattle.edr_report.specs.Words.{cycle_words, ack_words, bank_words, applied_words, stop_words, shown_count, damage_words}
-use Rattle.edr_report.specs.Lines.{Line, line, text_of, table_of}
-
--- ---- cycles, in block 0
 
 -- an acknowledged command of the cycle in place i of the run
 abbrev pub ack_line : ℕ → Ack → Line
@@ -26,8 +18,6 @@ cycle_lines i (StartStopped j) = line 0 (cycle_words i) (codes "start stopped in
 cycle_lines i (Ran n stop log) =
     line 0 (cycle_words i) (codes "number " ++ decimal n ++ codes ", " ++ stop_words stop) ∷ map (ack_line i) log
 
--- ---- an event, in a block of its own
-
 -- a line, with its name, of the event in place `block` of the retrieved ones
 abbrev pub event_line : ℕ → ℕ → Record → List ℕ → EventLine → Line
 event_line block bank r name l = line block name (event_words block bank r l)
@@ -36,28 +26,22 @@ event_line block bank r name l = line block name (event_words block bank r l)
 unfoldable pub event_lines : ℕ → ℕ → Record → List Line
 event_lines block bank r = map (λ l. event_line block bank r l.0.now l.1) LINES_OF_EVENT
 
--- ---- the banks that were found
-
 -- the record of an event with its bank's number, if it is one
 abbrev pub found_record : ℕ → BankView → Option (ℕ × Record)
-found_record bank Void = None
 found_record bank (Event r) = Some (bank, r)
-found_record bank (Damaged o x l) = None
+found_record bank view = None
 
 abbrev pub found_records : List Found → List (ℕ × Record)
 found_records found = filter_map (λ f. found_record f.bank f.view) found
 
--- the line of a damaged bank, in block 0
+-- the line of a damaged bank
 abbrev pub damaged_lines : ℕ → BankView → List Line
-damaged_lines bank Void = []
-damaged_lines bank (Event r) = []
 damaged_lines bank (Damaged o x l) = line 0 (bank_words bank) (damage_words o x l) ∷ []
+damaged_lines bank view = []
 
 -- the lines of the damaged banks that were found
 abbrev pub damage_lines : List Found → List Line
 damage_lines found = flat_map (λ f. damaged_lines f.bank f.view) found
-
--- ---- the report
 
 -- the lines of cycles, the first of which is in this place of the run
 abbrev pub run_lines : ℕ → List Report → List Line

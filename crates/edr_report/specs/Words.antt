@@ -1,21 +1,11 @@
 -- How the values of a report are spelled.
 use Rattle.std.specs.Prelude.{ℕ, ◌+◌, ◌/◌, ◌%◌, min, ℤ, Bool, if◌then◌else◌, Option, Some, None, List, ◌++◌, map, take, codes, decimal}
-use Rattle.std.specs.List.{join_with_byte}
-use Rattle.std.specs.Option.{option_map_or}
-use Rattle.std.specs.Fmt.{signed_decimal}
-use Rattle.edr_record.specs.declared.Place.{Place}
-use Rattle.edr_record.specs.declared.Place.TheVariants.{First, Second}
-use Rattle.edr_record.specs.declared.Profile.{Profile}
-use Rattle.edr_record.specs.declared.Profile.TheVariants as profile
-use Rattle.edr_record.specs.declared.Extreme.{Extreme}
-use Rattle.edr_record.specs.Bounds.{point_count}
-use Rattle.edr_image.specs.declared.Kind.{Kind}
+use Rattle.std.specs.{List.join_with_byte, Option.option_map_or, Fmt.signed_decimal}
+use Rattle.edr_record.specs.{declared.Extreme.Extreme, Bounds.point_count}
+use Rattle.edr_record.specs.declared.{Place.{Place, TheVariants.{First, Second}}, Profile.{Profile, TheVariants.{Short, Long}}}
+use Rattle.edr_image.specs.declared.{Kind.Kind, Applied.{Applied, TheVariants.{Kept, Locked, Done, NotKept}}}
 use Rattle.edr_image.specs.declared.Kind.TheVariants as kind
-use Rattle.edr_image.specs.declared.Applied.{Applied}
-use Rattle.edr_image.specs.declared.Applied.TheVariants.{Kept, Locked, Done, NotKept}
 use Rattle.edr_report.specs.declared.TheConstants.{LARGEST_SHOWN_COUNT}
-
--- ---- of cycles and banks
 
 abbrev pub cycle_words : ℕ → List ℕ
 cycle_words i = codes "cycle " ++ decimal i
@@ -42,8 +32,6 @@ applied_words NotKept = codes "not kept"
 abbrev pub stop_words : Option ℕ → List ℕ
 stop_words None = codes "power off"
 stop_words (Some k) = codes "stopped in call " ++ decimal k
-
--- ---- of one number
 
 abbrev pub none_word : List ℕ
 none_word = codes "none"
@@ -74,8 +62,6 @@ number_shown count = min count LARGEST_SHOWN_COUNT
 abbrev pub shown_count : ℕ → List ℕ
 shown_count n = decimal (number_shown n)
 
--- ---- of an event
-
 -- how many events the crash has so far
 abbrev pub events_in_crash : Place → List ℕ
 events_in_crash First = codes "1"
@@ -96,8 +82,8 @@ time_between (Second after) = seconds (tenths_of after)
 
 -- how far the lists of the pre part look back, and how often
 abbrev pub profile_word : Profile → List ℕ
-profile_word profile.Short = codes "short"
-profile_word profile.Long = codes "long"
+profile_word Short = codes "short"
+profile_word Long = codes "long"
 
 -- words parted by one space
 abbrev pub spaced_words : List (List ℕ) → List ℕ

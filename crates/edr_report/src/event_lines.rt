@@ -1,10 +1,16 @@
-//! The lines of an event: which there are, in their order, and their names.
+//! The lines of an event: which there are, in their order, their names, and what each shows.
 
-ghost use Rattle.std.specs.Prelude.{◌≡◌, ◌<◌};
-ghost use Rattle.edr_report.specs.EventWords.{place_of};
+ghost use Rattle.std.specs.Prelude.{◌≡◌, ◌<◌, ◌++◌, OnOk, string_bytes};
+ghost use Rattle.edr_report.specs.EventWords.{place_of, pre_words, crash_words, event_words};
 
+use crate::values::{
+    NONE, Slot, events_in_crash, profile_word, put_count, put_extreme, put_firing,
+    put_milliseconds, put_missing, put_points, put_spaced, put_time_between, yes_no,
+};
 use CrashLine::Fired;
 use EventLine::{After, Before};
+use edr_record::{Crash, Pre, Record};
+use std::alloc::AllocError as OutOfMemory;
 
 /// A line of an event.
 #[derive(Clone, Copy)]
@@ -75,17 +81,15 @@ impl Restraint {
         ensures place { result ≡ place_of self }
         ensures within { result < 8 }
     {
-        match self {
-            Restraint::DriverFrontal => 0,
-            Restraint::PassengerFrontal => 1,
-            Restraint::DriverSide => 2,
-            Restraint::PassengerSide => 3,
-            Restraint::DriverCurtain => 4,
-            Restraint::PassengerCurtain => 5,
-            Restraint::DriverPretensioner => 6,
-            Restraint::PassengerPretensioner => 7,
-        }
+        self as usize
     }
+}
+
+// The line of when a restraint fired first, with its name.
+macro_rules! fired {
+    ($name:literal, $restraint:ident) => {
+        ($name, After(Fired(Restraint::$restraint)))
+    };
 }
 
 /// The lines of an event, each with its name.
@@ -110,37 +114,70 @@ pub const LINES_OF_EVENT: [(&str, EventLine); 29] = [
     ("maximum delta-V lateral", After(CrashLine::MaxAcross)),
     ("time of maximum resultant", After(CrashLine::ResultAt)),
     ("ticks without sample", After(CrashLine::Missing)),
-    (
-        "driver frontal deployment",
-        After(Fired(Restraint::DriverFrontal)),
-    ),
-    (
-        "passenger frontal deployment",
-        After(Fired(Restraint::PassengerFrontal)),
-    ),
-    (
-        "driver side deployment",
-        After(Fired(Restraint::DriverSide)),
-    ),
-    (
-        "passenger side deployment",
-        After(Fired(Restraint::PassengerSide)),
-    ),
-    (
-        "driver curtain deployment",
-        After(Fired(Restraint::DriverCurtain)),
-    ),
-    (
-        "passenger curtain deployment",
-        After(Fired(Restraint::PassengerCurtain)),
-    ),
-    (
-        "driver pretensioner deployment",
-        After(Fired(Restraint::DriverPretensioner)),
-    ),
-    (
-        "passenger pretensioner deployment",
-        After(Fired(Restraint::PassengerPretensioner)),
-    ),
+    fired!("driver frontal deployment", DriverFrontal),
+    fired!("passenger frontal deployment", PassengerFrontal),
+    fired!("driver side deployment", DriverSide),
+    fired!("passenger side deployment", PassengerSide),
+    fired!("driver curtain deployment", DriverCurtain),
+    fired!("passenger curtain deployment", PassengerCurtain),
+    fired!("driver pretensioner deployment", DriverPretensioner),
+    fired!("passenger pretensioner deployment", PassengerPretensioner),
     ("complete file recorded", EventLine::Complete),
 ];
+
+/// Appends what a line of an event shows.
+pub fn put_value(
+    out: &mut String,
+    block: u64,
+    bank: u8,
+    event: &Record,
+    line: EventLine,
+) -> Result<(), OutOfMemory>
+    ensures { OnOk result (string_bytes out.new ≡ string_bytes out.old ++ event_words block bank event.now line) }
+{
+    match line {
+        EventLine::Number => write!(out, "{block}"),
+        EventLine::Bank => write!(out, "{bank}"),
+        Before(line) => put_before(out, &event.pre, event.locked, line),
+        After(line) => match &event.crash {
+            Some(crash) => put_after(out, crash, line),
+            None => out.push_str(NONE),
+        },
+        EventLine::Complete => out.push_str(yes_no(event.complete())),
+    }
+}
+
+// Appends what a line of what stood before time zero shows.
+fn put_before(out: &mut String, pre: &Pre, locked: bool, line: PreLine) -> Result<(), OutOfMemory>
+    ensures { OnOk result (string_bytes out.new ≡ string_bytes out.old ++ pre_words pre.now locked line) }
+{
+    match line {
+        PreLine::Cycle => put_count(out, pre.key.cycle),
+        PreLine::TimeZero => put_milliseconds(out, pre.key.zero),
+        PreLine::Events => out.push_str(events_in_crash(pre.place)),
+        PreLine::Between => put_time_between(out, pre.place),
+        PreLine::Deployment => out.push_str(yes_no(locked)),
+        PreLine::Profile => out.push_str(profile_word(pre.profile())),
+        PreLine::Speed => put_spaced(out, pre.speed()),
+        PreLine::Throttle => put_spaced(out, pre.throttle()),
+        PreLine::Brake => put_spaced(out, pre.brake()),
+        PreLine::Belt => pre.belt.put(out),
+        PreLine::Lamp => pre.lamp.put(out),
+    }
+}
+
+// Appends what a line of what came after it shows.
+fn put_after(out: &mut String, crash: &Crash, line: CrashLine) -> Result<(), OutOfMemory>
+    ensures { OnOk result (string_bytes out.new ≡ string_bytes out.old ++ crash_words crash.now line) }
+{
+    match line {
+        CrashLine::End => put_milliseconds(out, u32::from(crash.end)),
+        CrashLine::Along => put_points(out, crash.end, crash.along),
+        CrashLine::Across => put_points(out, crash.end, crash.across),
+        CrashLine::MaxAlong => put_extreme(out, crash.max_along),
+        CrashLine::MaxAcross => put_extreme(out, crash.max_across),
+        CrashLine::ResultAt => put_milliseconds(out, u32::from(crash.result_at)),
+        CrashLine::Missing => put_missing(out, crash.missing_along, crash.missing_across),
+        Fired(restraint) => put_firing(out, crash.fired[restraint.place()]),
+    }
+}

@@ -20,7 +20,7 @@ ghost use Rattle.edr_report.specs.Words.{number_shown, tenths_of};
 use edr_image::{CycleReport, Found};
 pub use event_lines::{CrashLine, EventLine, LINES_OF_EVENT, PreLine, Restraint};
 pub use forms::Lines;
-use forms::{Table, Text};
+use forms::table_writer;
 use printer::print;
 pub use printer::{print_event, print_run};
 pub use short_lines::{
@@ -63,8 +63,7 @@ pub fn text(
 ) -> Result<Vec<u8>, OutOfMemory>
     ensures { IfOk result (λ out. out.items ≡ text_of (report_lines (map report_of run.now) found.now count)) }
 {
-    let printed = print(alloc, Text::new(alloc), run, found, count)?;
-    Ok(printed.into_bytes())
+    print(alloc, Vec::new(alloc), run, found, count)
 }
 
 /// The same report as comma-separated values: the record `block,name,value`, and then a record for each line. A field
@@ -77,6 +76,6 @@ pub fn table(
 ) -> Result<Vec<u8>, OutOfMemory>
     ensures { IfOk result (λ out. out.items ≡ table_of (report_lines (map report_of run.now) found.now count)) }
 {
-    let printed = print(alloc, Table::new(alloc)?, run, found, count)?;
-    printed.into_bytes()
+    let writer = print(alloc, table_writer(alloc)?, run, found, count)?;
+    writer.into_inner().map_err(|_| OutOfMemory)
 }

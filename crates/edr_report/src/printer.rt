@@ -1,90 +1,16 @@
 //! The walk over a run and what its banks hold, which gives the lines of the report to a form.
 
-ghost use Rattle.std.specs.Prelude.{◌≡◌, IfOk, OnOk, map};
+ghost use Rattle.std.specs.Prelude.{◌≡◌, ◌∷◌, [], IfOk, OnOk, map};
 ghost use Rattle.edr_image.specs.Reports.{report_of};
-ghost use Rattle.edr_report.specs.Lines.{line};
-ghost use Rattle.edr_report.specs.Words.{kind_word};
-ghost use Rattle.edr_report.specs.Printed.{GainsLines, GivesLines, GivesLine, named_line, some_lines};
-ghost use Rattle.edr_report.specs.Values.{value_words};
-ghost use Rattle.edr_report.specs.EventWords.{pre_words, crash_words, event_words};
+ghost use Rattle.edr_report.specs.Printed.{Takes, GainsLines, named_line};
 ghost use Rattle.edr_report.specs.Report.{ack_line, cycle_lines, run_lines, event_lines, events_lines, found_records, damage_lines, damaged_lines, report_lines};
 
-use crate::event_lines::{CrashLine, EventLine, LINES_OF_EVENT, PreLine};
+use crate::event_lines::{EventLine, LINES_OF_EVENT, put_value};
 use crate::forms::Lines;
-use crate::values::Value;
-use edr_image::{Ack, BankView, CycleReport, Found, Kind};
-use edr_record::{Crash, Pre, Record};
+use crate::values::{kind_word, put_applied, put_count, put_stop, yes_no};
+use edr_image::{Ack, BankView, CycleReport, Found};
+use edr_record::Record;
 use std::alloc::{AllocError as OutOfMemory, Global};
-
-// What a line of what stood before time zero shows.
-fn pre_value(pre: &Pre, locked: bool, line: PreLine) -> Value<'_>
-    ensures { value_words result ≡ pre_words pre.now locked line }
-{
-    match line {
-        PreLine::Cycle => Value::Count(pre.key.cycle),
-        PreLine::TimeZero => Value::Milliseconds(pre.key.zero),
-        PreLine::Events => Value::EventsInCrash(pre.place),
-        PreLine::Between => Value::TimeBetween(pre.place),
-        PreLine::Deployment => Value::YesNo(locked),
-        PreLine::Profile => Value::Profile(pre.profile()),
-        PreLine::Speed => Value::Speeds(pre.speed()),
-        PreLine::Throttle => Value::Throttles(pre.throttle()),
-        PreLine::Brake => Value::Switches(pre.brake()),
-        PreLine::Belt => Value::Switch(pre.belt),
-        PreLine::Lamp => Value::Switch(pre.lamp),
-    }
-}
-
-// What a line of what came after it shows.
-fn crash_value(crash: &Crash, line: CrashLine) -> Value<'static>
-    ensures { value_words result ≡ crash_words crash.now line }
-{
-    match line {
-        CrashLine::End => Value::Milliseconds(u32::from(crash.end)),
-        CrashLine::Along => Value::Points {
-            end: crash.end,
-            points: crash.along,
-        },
-        CrashLine::Across => Value::Points {
-            end: crash.end,
-            points: crash.across,
-        },
-        CrashLine::MaxAlong => Value::Extreme(crash.max_along),
-        CrashLine::MaxAcross => Value::Extreme(crash.max_across),
-        CrashLine::ResultAt => Value::Milliseconds(u32::from(crash.result_at)),
-        CrashLine::Missing => Value::Missing {
-            along: crash.missing_along,
-            across: crash.missing_across,
-        },
-        CrashLine::Fired(restraint) => Value::Firing(crash.fired[restraint.place()]),
-    }
-}
-
-// What a line of an event shows.
-fn event_value(block: u64, bank: u8, event: &Record, line: EventLine) -> Value<'_>
-    ensures { value_words result ≡ event_words block bank event.now line }
-{
-    match line {
-        EventLine::Number => Value::Number(block),
-        EventLine::Bank => Value::Number(u64::from(bank)),
-        EventLine::Before(line) => pre_value(&event.pre, event.locked, line),
-        EventLine::After(line) => match &event.crash {
-            Some(crash) => crash_value(crash, line),
-            None => Value::Absent,
-        },
-        EventLine::Complete => Value::YesNo(event.complete()),
-    }
-}
-
-fn kind_word(kind: Kind) -> &'static str
-    ensures { result.now ≡ kind_word kind }
-{
-    match kind {
-        Kind::Take => "take",
-        Kind::Lock => "lock",
-        Kind::Done => "done",
-    }
-}
 
 /// Gives lines to a form. `name` and `value` are room for the parts of one line.
 #[derive(Drop)]
@@ -95,113 +21,79 @@ pub struct Printer<L: Lines> {
 }
 
 impl<L: Lines> Printer<L> {
-    fn new(alloc: Global, form: L) -> Printer<L>
-        ensures { result.lines ≡ form }
+    fn new(alloc: Global, lines: L) -> Printer<L>
+        ensures { result.lines ≡ lines }
     {
-        Printer {
-            lines: form,
-            name: String::new(alloc),
-            value: String::new(alloc),
-        }
+        let name = String::new(alloc);
+        let value = String::new(alloc);
+        Printer { lines, name, value }
     }
 
-    // Gives a line.
-    fn put(&mut self, block: u64, name: &str, value: Value<'_>) -> Result<(), OutOfMemory>
+    // Gives the line of block 0 whose name and value stand there.
+    fn put_named(&mut self) -> Result<(), OutOfMemory>
         requires { L.ready self.old.lines }
-        ensures ready { OnOk result (L.ready self.new.lines) }
-        ensures bytes { OnOk result (GivesLine L.Lines self.old self.new (line block name.now (value_words value.entry))) }
+        ensures { OnOk result (Takes L.Lines self.old.lines self.new.lines (named_line self.old ∷ [])) }
     {
-        self.value.clear();
-        value.put(&mut self.value)?;
         self.lines
-            .line(block, name.as_bytes(), self.value.as_bytes())
-    }
-
-    // Gives these lines of an event.
-    fn put_lines(
-        &mut self,
-        block: u64,
-        bank: u8,
-        event: &Record,
-        lines: &[(&'static str, EventLine)],
-    ) -> Result<(), OutOfMemory>
-        requires { L.ready self.old.lines }
-        ensures ready { OnOk result (L.ready self.new.lines) }
-        ensures bytes { OnOk result (GivesLines L.Lines self.old self.new (some_lines block bank event.now lines.now)) }
-    {
-        for (name, line) in lines {
-            self.put(block, name, event_value(block, bank, event, *line))?;
-        }
-        Ok(())
+            .line(0, self.name.as_bytes(), self.value.as_bytes())
     }
 
     // Gives the lines of an event.
     #[tactic(auto, unfolding(crate::specs::Report::event_lines))]
     fn put_event(&mut self, block: u64, bank: u8, event: &Record) -> Result<(), OutOfMemory>
         requires { L.ready self.old.lines }
-        ensures ready { OnOk result (L.ready self.new.lines) }
-        ensures bytes { OnOk result (GivesLines L.Lines self.old self.new (event_lines block bank event.now)) }
+        ensures { OnOk result (Takes L.Lines self.old.lines self.new.lines (event_lines block bank event.now)) }
     {
-        self.put_lines(block, bank, event, &LINES_OF_EVENT)
-    }
-
-    // Gives a line of block 0 whose name stands in `self.name`.
-    fn put_named(&mut self, value: Value<'_>) -> Result<(), OutOfMemory>
-        requires { L.ready self.old.lines }
-        ensures ready { OnOk result (L.ready self.new.lines) }
-        ensures bytes { OnOk result (GivesLine L.Lines self.old self.new (named_line self.old value.entry)) }
-    {
-        self.value.clear();
-        value.put(&mut self.value)?;
-        self.lines
-            .line(0, self.name.as_bytes(), self.value.as_bytes())
+        let lines = LINES_OF_EVENT.as_slice();
+        for (name, line) in lines {
+            self.value.clear();
+            put_value(&mut self.value, block, bank, event, *line)?;
+            self.lines
+                .line(block, name.as_bytes(), self.value.as_bytes())?;
+        }
+        Ok(())
     }
 
     // Gives the line of an acknowledged command of the cycle in this place of the run.
     fn put_ack(&mut self, place: u64, ack: &Ack) -> Result<(), OutOfMemory>
         requires { L.ready self.old.lines }
-        ensures ready { OnOk result (L.ready self.new.lines) }
-        ensures bytes { OnOk result (GivesLine L.Lines self.old self.new (ack_line place ack.now)) }
+        ensures { OnOk result (Takes L.Lines self.old.lines self.new.lines (ack_line place ack.now ∷ [])) }
     {
         let kind = kind_word(ack.kind);
         let tick = ack.tick;
         self.name.clear();
         write!(self.name, "cycle {place} {kind} at {tick}")?;
-        self.put_named(Value::Applied(ack.applied))
-    }
-
-    // Gives the lines of acknowledged commands.
-    fn put_acks(&mut self, place: u64, acks: &[Ack]) -> Result<(), OutOfMemory>
-        requires { L.ready self.old.lines }
-        ensures ready { OnOk result (L.ready self.new.lines) }
-        ensures bytes { OnOk result (GivesLines L.Lines self.old self.new (map (ack_line place) acks.now)) }
-    {
-        for ack in acks {
-            self.put_ack(place, ack)?;
-        }
-        Ok(())
+        self.value.clear();
+        put_applied(&mut self.value, ack.applied)?;
+        self.put_named()
     }
 
     // Gives the lines of the cycle in this place of the run.
     fn put_cycle(&mut self, place: u64, report: &CycleReport) -> Result<(), OutOfMemory>
         requires { L.ready self.old.lines }
-        ensures ready { OnOk result (L.ready self.new.lines) }
-        ensures bytes { OnOk result (GivesLines L.Lines self.old self.new (cycle_lines place (report_of report.now))) }
+        ensures { OnOk result (Takes L.Lines self.old.lines self.new.lines (cycle_lines place (report_of report.now))) }
     {
         self.name.clear();
         write!(self.name, "cycle {place}")?;
+        self.value.clear();
         match report {
-            CycleReport::StartStopped { call } => self.put_named(Value::StartStopped(*call)),
+            CycleReport::StartStopped { call } => {
+                write!(self.value, "start stopped in call {call}")?;
+                self.put_named()
+            }
             CycleReport::Ran {
                 number,
                 stopped,
                 log,
             } => {
-                self.put_named(Value::Ran {
-                    number: *number,
-                    stopped: *stopped,
-                })?;
-                self.put_acks(place, log.acks())
+                write!(self.value, "number {number}, ")?;
+                put_stop(&mut self.value, *stopped)?;
+                self.put_named()?;
+                let acks = log.acks();
+                for ack in acks {
+                    self.put_ack(place, ack)?;
+                }
+                Ok(())
             }
         }
     }
@@ -209,8 +101,7 @@ impl<L: Lines> Printer<L> {
     // Gives the lines of the cycles of a run.
     fn put_run(&mut self, run: &[CycleReport]) -> Result<(), OutOfMemory>
         requires { L.ready self.old.lines }
-        ensures ready { OnOk result (L.ready self.new.lines) }
-        ensures bytes { OnOk result (GivesLines L.Lines self.old self.new (run_lines 1 (map report_of run.now))) }
+        ensures { OnOk result (Takes L.Lines self.old.lines self.new.lines (run_lines 1 (map report_of run.now))) }
     {
         for (i, report) in run.iter().enumerate() {
             self.put_cycle(i as u64 + 1, report)?;
@@ -221,8 +112,7 @@ impl<L: Lines> Printer<L> {
     // Gives the lines of the events that were found.
     fn put_events(&mut self, found: &[Found]) -> Result<(), OutOfMemory>
         requires { L.ready self.old.lines }
-        ensures ready { OnOk result (L.ready self.new.lines) }
-        ensures bytes { OnOk result (GivesLines L.Lines self.old self.new (events_lines 1 (found_records found.now))) }
+        ensures { OnOk result (Takes L.Lines self.old.lines self.new.lines (events_lines 1 (found_records found.now))) }
     {
         let mut block = 0;
         for bank in found {
@@ -237,55 +127,36 @@ impl<L: Lines> Printer<L> {
     // Gives the line of a bank, if it is damaged.
     fn put_if_damaged(&mut self, bank: &Found) -> Result<(), OutOfMemory>
         requires { L.ready self.old.lines }
-        ensures ready { OnOk result (L.ready self.new.lines) }
-        ensures bytes { OnOk result (GivesLines L.Lines self.old self.new (damaged_lines bank.now.bank bank.now.view)) }
+        ensures { OnOk result (Takes L.Lines self.old.lines self.new.lines (damaged_lines bank.now.bank bank.now.view)) }
     {
-        match bank.view {
-            BankView::Damaged {
-                offset,
-                found,
-                locked,
-            } => {
-                let number = bank.bank;
-                self.name.clear();
-                write!(self.name, "bank {number}")?;
-                self.put_named(Value::Damage {
-                    offset,
-                    found,
-                    locked,
-                })
-            }
-            _ => Ok(()),
-        }
+        let BankView::Damaged {
+            offset,
+            found,
+            locked,
+        } = bank.view
+        else {
+            return Ok(());
+        };
+        self.name.clear();
+        write!(self.name, "bank {}", bank.bank)?;
+        self.value.clear();
+        let locked = yes_no(locked);
+        write!(
+            self.value,
+            "damaged at {offset} found {found} locked {locked}"
+        )?;
+        self.put_named()
     }
 
     // Gives the lines of the damaged banks that were found.
     fn put_damaged(&mut self, found: &[Found]) -> Result<(), OutOfMemory>
         requires { L.ready self.old.lines }
-        ensures ready { OnOk result (L.ready self.new.lines) }
-        ensures bytes { OnOk result (GivesLines L.Lines self.old self.new (damage_lines found.now)) }
+        ensures { OnOk result (Takes L.Lines self.old.lines self.new.lines (damage_lines found.now)) }
     {
         for bank in found {
             self.put_if_damaged(bank)?;
         }
         Ok(())
-    }
-
-    // Gives all lines of a report.
-    fn put_report(
-        &mut self,
-        run: &[CycleReport],
-        found: &[Found],
-        count: u32,
-    ) -> Result<(), OutOfMemory>
-        requires { L.ready self.old.lines }
-        ensures ready { OnOk result (L.ready self.new.lines) }
-        ensures bytes { OnOk result (GivesLines L.Lines self.old self.new (report_lines (map report_of run.now) found.now count)) }
-    {
-        self.put_run(run)?;
-        self.put_events(found)?;
-        self.put_damaged(found)?;
-        self.put(0, "ignition cycle, download", Value::Count(count))
     }
 }
 
@@ -301,7 +172,14 @@ pub fn print<L: Lines + Drop>(
     ensures { IfOk result (λ out. GainsLines L.Lines form out (report_lines (map report_of run.now) found.now count)) }
 {
     let mut printer = Printer::new(alloc, form);
-    printer.put_report(run, found, count)?;
+    printer.put_run(run)?;
+    printer.put_events(found)?;
+    printer.put_damaged(found)?;
+    printer.name.clear();
+    printer.name.push_str("ignition cycle, download")?;
+    printer.value.clear();
+    put_count(&mut printer.value, count)?;
+    printer.put_named()?;
     Ok(printer.lines)
 }
 

@@ -1,8 +1,6 @@
-use Rattle.std.proofs.Common.{◌≡◌, ◌++◌, flat_map, take}
-use Rattle.edr_report.specs.Report.{damaged_lines}
+use Rattle.std.proofs.Common.{take}
+use Rattle.edr_report.specs.{Printed.Takes, Report.damage_lines}
 use Rattle.edr_report.proofs.printer.Printer.put_damaged.Given as goal
 
 abbrev pub invariant-loop-bank : goal.invariant-loop-bank
-invariant-loop-bank g l =
-    (g.L.Lines.ready l.self.lines)
-    × (g.L.Lines.bytes l.self.lines ≡ g.L.Lines.bytes l.initial.self.lines ++ flat_map g.L.Lines.form (flat_map (λ f. damaged_lines f.bank f.view) (take l.bank-index l.found)))
+invariant-loop-bank g l = Takes g.L.Lines l.initial.self.lines l.self.lines (damage_lines (take l.bank-index l.found))

@@ -1,7 +1,7 @@
 use Rattle.std.proofs.Common.{arith, ◌≡◌, ◌∙◌, ap, ℕ, ◌+◌, List, ◌++◌, length, take, length-append}
 use Rattle.edr_record.specs.declared.Record.{Record}
 use Rattle.edr_report.specs.Report.{found_records, event_lines, events_lines}
-use Rattle.edr_report.proofs.PrintedLemmas.{printed-more, numbered-more}
+use Rattle.edr_report.proofs.PrintedLemmas.{takes-more, numbered-more}
 use Rattle.edr_report.proofs.FoundLemmas.{records-event, records-other}
 use Rattle.edr_report.proofs.printer.Printer.put_events.Goals as goal
 use Rattle.edr_report.proofs.printer.Printer.put_events.Goals.{in-Event+in_ok-put_event, in_default}
@@ -23,8 +23,8 @@ loop-bank-preserved g c =
           ∙ ap (λ (k : ℕ). events_lines 1 done ++ event_lines k bank.bank r) place in
           let count : at.block + 1 ≡ length (found_records (take (at.bank-index + 1) found)) =
           omega (arith, simp length-append at (ap length next)) in
-          rw (w.self-is, w.block-is) (w.in_ok-put_event.ensures.ready, printed-more g.L.Lines.form _ _ _ _ _ _ at.invariant.1 w.in_ok-put_event.ensures.bytes more, count, omega arith)
+          rw (w.self-is, w.block-is) (takes-more g.L.Lines _ _ _ _ _ _ at.invariant.0 w.in_ok-put_event.ensures more, count, omega arith)
       | in_default w ↦
           let next = records-other found at.bank-index bank c.loop-bank-test.true c.bank-item.is w.in_default.not-Event in
-          rw (w.self-is, w.block-is, next) (at.invariant.0, at.invariant.1, at.invariant.2, omega arith)
+          rw (w.self-is, w.block-is, next) (at.invariant.0, at.invariant.1, omega arith)
     ]

@@ -2,7 +2,7 @@ use Rattle.std.proofs.Common.{arith, ◌≡◌, ◌∷◌, [], ◌++◌, ◌∙�
 use Rattle.std.proofs.lemmas.List.{map_more, length-map, length-take}
 use Rattle.edr_image.specs.Reports.{report_of}
 use Rattle.edr_report.specs.Report.{cycle_lines, run_lines}
-use Rattle.edr_report.proofs.PrintedLemmas.{printed-more, numbered-more}
+use Rattle.edr_report.proofs.PrintedLemmas.{takes-more, numbered-more}
 use Rattle.edr_report.proofs.printer.Printer.put_run.Goals as goal
 
 pub loop-i-preserved : goal.loop-i-preserved
@@ -14,4 +14,4 @@ loop-i-preserved g c =
     let further : map report_of (take (at.i + 1) c.args.run.now) ≡ done ++ report ∷ [] =
     map_more report_of c.args.run.now at.i c.index-run-i.result c.loop-i-test.true ∙ ap (λ x. done ++ report_of x ∷ []) (sym c.index-run-i.is) in
     let more = ap (run_lines 1) further ∙ numbered-more (λ r. cycle_lines r.0 r.1) 1 done report ∙ ap (λ (k : ℕ). run_lines 1 done ++ cycle_lines k report) place in
-    (c.in_ok-put_cycle.ensures.ready, printed-more g.L.Lines.form _ _ _ _ _ _ at.invariant.1 c.in_ok-put_cycle.ensures.bytes more)
+    takes-more g.L.Lines _ _ _ _ _ _ at.invariant c.in_ok-put_cycle.ensures more
