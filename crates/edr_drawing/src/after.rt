@@ -124,31 +124,28 @@ fn draw_times(out: &mut Vec<u8>, scale: &Scale) -> Drawn
     Ok(())
 }
 
-// Draws the line of a change of speed, which is so far above the bottom of the scale.
-#[tactic(auto, unfolding(crate::specs::After::level))]
-fn draw_level(out: &mut Vec<u8>, scale: &Scale, above: u32) -> Drawn
-    requires { IsScale scale.now }
-    ensures { OnOk result (out.new.items ≡ out.old.items ++ level scale.now above) }
-{
-    let Scale { top, bottom, .. } = *scale;
-    let y = BELOW_TOP + (top + bottom).saturating_sub(above) * HEIGHT / (top + bottom);
-    let class = Text(either(above == bottom, LEVEL_CLASSES));
-    let number = if above < bottom {
-        Below(bottom - above)
-    } else {
-        Number(above - bottom)
-    };
-    fill(out, LEVEL, &[class, Number(y), Number(y + 9), number])
-}
-
-// Draws a line at each step.
-#[tactic(auto, using(crate::proofs::ListLemmas::counted_more), unfolding(crate::specs::After::levels))]
+// Draws a line at each step of a change of speed, with its number.
+#[tactic(auto, using(crate::proofs::ListLemmas::counted_more), unfolding(crate::specs::After::levels, crate::specs::After::level))]
 fn draw_levels(out: &mut Vec<u8>, scale: &Scale) -> Drawn
     requires { IsScale scale.now }
     ensures { OnOk result (out.new.items ≡ out.old.items ++ levels scale.now) }
 {
-    for i in 0..(scale.top + scale.bottom) / scale.step + 1 {
-        draw_level(out, scale, scale.step * i)?;
+    let Scale {
+        top,
+        bottom,
+        step,
+        ..
+    } = *scale;
+    for i in 0..(top + bottom) / step + 1 {
+        let above = step * i;
+        let y = BELOW_TOP + (top + bottom).saturating_sub(above) * HEIGHT / (top + bottom);
+        let class = Text(either(above == bottom, LEVEL_CLASSES));
+        let number = if above < bottom {
+            Below(bottom - above)
+        } else {
+            Number(above - bottom)
+        };
+        fill(out, LEVEL, &[class, Number(y), Number(y + 9), number])?;
     }
     Ok(())
 }
@@ -394,46 +391,8 @@ fn words_of(crash: &Crash, row: ChartRow) -> Filling<'static>
     }
 }
 
-// Draws this row, which is the first one of its part or not.
+// Draws these rows, the first one of each part after a line.
 #[tactic(auto, unfolding(crate::specs::After::chart_row))]
-fn draw_row(
-    out: &mut Vec<u8>,
-    scale: &Scale,
-    crash: &Crash,
-    k: u32,
-    row: (&'static [u8], ChartRow),
-) -> Drawn
-    requires span { 300 ≤ scale.now.span }
-    requires row { k ≤ 12 }
-    ensures { OnOk result (out.new.items ≡ out.old.items ++ chart_row scale.now crash.now k row.entry.0.now row.entry.1) }
-{
-    let y = ROWS_Y + ROW_HEIGHT * k;
-    fill_if(out, k == 0 || k == FIRST_RESTRAINT, RULE, &[Number(y)])?;
-    let (words_y, name, words) = (Number(y + WORDS_DOWN), Text(row.0), words_of(crash, row.1));
-    let Some(time) = time_of(crash, row.1) else {
-        return fill(out, EMPTY_ROW, &[words_y, name, words]);
-    };
-    let x = scale.x(time);
-    let beside = if x < FLAG_FAR_RIGHT {
-        x + BESIDE_FLAG
-    } else {
-        x - BESIDE_FLAG
-    };
-    let parts = [
-        words_y,
-        name,
-        words,
-        Number(x),
-        Number(y + FLAG_DOWN),
-        Number(beside),
-        Text(either(x < FLAG_FAR_RIGHT, BESIDE_CLASSES)),
-        Text(either(k < FIRST_RESTRAINT, NAME_CLASSES)),
-        Text(either(k < FIRST_RESTRAINT, WORDS_CLASSES)),
-    ];
-    fill(out, ROW, &parts)
-}
-
-// Draws these rows.
 fn draw_rows(
     out: &mut Vec<u8>,
     scale: &Scale,
@@ -443,8 +402,33 @@ fn draw_rows(
     requires { 300 ≤ scale.now.span }
     ensures { OnOk result (out.new.items ≡ out.old.items ++ chart_rows (λ l. l.0.now) (λ l. l.1) scale.now crash.now 0 rows.now) }
 {
-    for k in 0..12 {
-        draw_row(out, scale, crash, k as u32, rows[k])?;
+    for i in 0..12 {
+        let (k, (name, row)) = (i as u32, rows[i]);
+        let y = ROWS_Y + ROW_HEIGHT * k;
+        fill_if(out, k == 0 || k == FIRST_RESTRAINT, RULE, &[Number(y)])?;
+        let (words_y, name, words) = (Number(y + WORDS_DOWN), Text(name), words_of(crash, row));
+        let Some(time) = time_of(crash, row) else {
+            fill(out, EMPTY_ROW, &[words_y, name, words])?;
+            continue;
+        };
+        let x = scale.x(time);
+        let beside = if x < FLAG_FAR_RIGHT {
+            x + BESIDE_FLAG
+        } else {
+            x - BESIDE_FLAG
+        };
+        let parts = [
+            words_y,
+            name,
+            words,
+            Number(x),
+            Number(y + FLAG_DOWN),
+            Number(beside),
+            Text(either(x < FLAG_FAR_RIGHT, BESIDE_CLASSES)),
+            Text(either(k < FIRST_RESTRAINT, NAME_CLASSES)),
+            Text(either(k < FIRST_RESTRAINT, WORDS_CLASSES)),
+        ];
+        fill(out, ROW, &parts)?;
     }
     Ok(())
 }
