@@ -17,7 +17,7 @@ use Rattle.edr_drawing.specs.Sheets.{NumberedRecord, events_of, place_fact, shee
 use Rattle.edr_drawing.specs.Scales.{flat_map_below}
 use Rattle.edr_drawing.specs.Tables.{row, row_of, line_row, elements_table, run_table, block, block_slots, blocks, blocks_in, by_time, slot_row}
 use Rattle.edr_drawing.specs.Page.{page_bytes}
-use Rattle.edr_drawing.specs.Laws.{HasAllPlaces, HasAllSlotRows, HasSlotRows, IsInOnePiece, shown_row}
+use Rattle.edr_drawing.specs.Laws.{HasPlace, HasSlotRows, IsInOnePiece, OfEvents, shown_row}
 
 -- the bytes stand in the others, in one piece
 pub record Piece (part whole : List ℕ) : Type 0 where
@@ -143,7 +143,7 @@ slot_piece n p k within =
 pub slot_of_table : (n : ℕ) (p : PrePart) → HasSlotRows p (by_time n p)
 slot_of_table n p k within = (slot_piece n p k within).piece
 
-pub slots_on_page : (reports : List Report) (found : List Found) (origin : Origin) → HasAllSlotRows found (page_bytes reports found origin)
+pub slots_on_page : (reports : List Report) (found : List Found) (origin : Origin) → OfEvents found (λ p. HasSlotRows p (page_bytes reports found origin))
 unfolding sheet
 slots_on_page reports found origin e among k within =
     let there = has_number 1 (found_records found) e among in
@@ -152,7 +152,7 @@ slots_on_page reports found origin e among k within =
 
 -- ---- the place of an event in its crash
 
-pub places_on_page : (reports : List Report) (found : List Found) (origin : Origin) → HasAllPlaces found (page_bytes reports found origin)
+pub places_on_page : (reports : List Report) (found : List Found) (origin : Origin) → OfEvents found (λ p. HasPlace found p (page_bytes reports found origin))
 unfolding sheet
 places_on_page reports found origin e among =
     let there = has_number 1 (found_records found) e among in

@@ -4,20 +4,18 @@ use Rattle.std.specs.List.{list_all}
 use Rattle.std.proofs.lemmas.Bool.{and_parts}
 use Rattle.edr_record.specs.Parts.{PrePart, CrashPart}
 use Rattle.edr_record.specs.declared.Profile.{Profile}
-use Rattle.edr_record.specs.declared.Profile.TheVariants.{Short, Long}
 use Rattle.edr_drawing.specs.declared.after.AtPoint.{AtPoint}
 use Rattle.edr_drawing.specs.declared.after.ChartRow.{ChartRow}
 use Rattle.edr_drawing.specs.declared.after.ChartRow.TheVariants.{Greatest}
-use Rattle.edr_drawing.specs.declared.before.TheConstants.{BRAKE_BAND}
 use Rattle.edr_drawing.specs.declared.scales.Scale.{Scale}
 use Rattle.edr_drawing.specs.declared.before.ChartLane.{ChartLane}
 use Rattle.edr_drawing.specs.declared.template.Shape.{Shape}
 use Rattle.edr_drawing.specs.declared.template.Shape.TheVariants as shape
-use Rattle.edr_drawing.specs.declared.template.TheConstants.{RADII, NONE}
+use Rattle.edr_drawing.specs.declared.template.TheConstants.{NONE}
 use Rattle.edr_record.specs.declared.TheConstants.{POINT_STEP}
 use Rattle.edr_drawing.specs.Template.{shape_bytes, shapes_bytes}
 use Rattle.edr_drawing.specs.Scales.{change_y, slot_x, time_x}
-use Rattle.edr_drawing.specs.Before.{cells, cells_of, drawn_lane, field_shapes, lane_y, long_cells, points, run_shapes, before_chart, brake_slots, switch_runs, switches, time_lines}
+use Rattle.edr_drawing.specs.Before.{before_chart, brake_runs, cells, drawn_lane, lane_y, marked, points, run_shapes, time_lines}
 use Rattle.edr_drawing.specs.After.{axis_shapes, changes_chart, curve, drawn_curve, end_line, level, levels, maximum, shape_at, time_lines as later_lines, after_chart, chart_row, flag_row, row_time, chart_rows, row_words, time_words}
 use Rattle.edr_drawing.proofs.PlainLemmas.{Plain, all_low, plain_nil, plain_append, plain_if, plain_fixed, plain_flat_map, plains, plain_beginning, plain_decimal, plain_digest}
 use Rattle.edr_record.specs.declared.Key.{Key}
@@ -49,36 +47,21 @@ plain_points f l k before [] = plain_nil
 plain_points f l k before (None ∷ vs) = plain_points f l (k + 1) false vs
 plain_points f l k before (Some v ∷ vs) = plain_append _ _ (plain_shapes (shape.Joint before (slot_x f k) (lane_y l v) ∷ [])) (plain_points f l (k + 1) true vs)
 
-plain_cells : (l : ChartLane) (k : ℕ) (vs : List (Option ℕ)) → Plain (cells l k vs)
-plain_cells l k [] = plain_nil
-plain_cells l k (v ∷ vs) = plain_append _ _ (plain_shapes _) (plain_cells l (k + 1) vs)
+plain_cells : (f : Profile) (l : ChartLane) (k n : ℕ) (vs : List (Option ℕ)) → Plain (cells f l k n vs)
+plain_cells f l k n [] = plain_shapes _
+plain_cells f l k n (None ∷ vs) =
+    plain_if _ _ _ (plain_cells f l k (n + 1) vs) (plain_append _ _ (plain_shapes _) (plain_cells f l (k + n) 1 vs))
+plain_cells f l k n (Some v ∷ vs) =
+    plain_append _ _ (plain_append _ _ (plain_shapes (run_shapes f k n l.gap None)) (plain_shapes (marked f l (k + n) v))) (plain_cells f l (k + n + 1) 0 vs)
 
-plain_long_cells : (l : ChartLane) (k n : ℕ) (vs : List (Option ℕ)) → Plain (long_cells l k n vs)
-plain_long_cells l k n [] = plain_shapes _
-plain_long_cells l k n (None ∷ vs) = plain_long_cells l k (n + 1) vs
-plain_long_cells l k n (Some v ∷ vs) =
-    plain_append _ _ (plain_append _ _ (plain_shapes (run_shapes k n l.gap None)) (plain_shapes (shape.Dot (slot_x Long (k + n)) (lane_y l v) RADII.1 ∷ []))) (plain_long_cells l (k + n + 1) 0 vs)
-
-plain_cells_of : (f : Profile) (l : ChartLane) (vs : List (Option ℕ)) → Plain (cells_of f l vs)
-plain_cells_of Short l vs = plain_cells l 0 vs
-plain_cells_of Long l vs = plain_long_cells l 0 0 vs
-
-plain_switches : (k : ℕ) (vs : List (Option Bool)) → Plain (switches k vs)
-plain_switches k [] = plain_nil
-plain_switches k (v ∷ vs) = plain_append _ _ (plain_shapes (field_shapes (slot_x Short k) BRAKE_BAND v)) (plain_switches (k + 1) vs)
-
-plain_switch_runs : (k n : ℕ) (u : Option Bool) (vs : List (Option Bool)) → Plain (switch_runs k n u vs)
-plain_switch_runs k n u [] = plain_shapes _
-plain_switch_runs k n u (v ∷ vs) =
-    plain_if _ _ _ (plain_switch_runs k (n + 1) u vs) (plain_append _ _ (plain_shapes _) (plain_switch_runs (k + n) 1 v vs))
-
-plain_brake_slots : (f : Profile) (vs : List (Option Bool)) → Plain (brake_slots f vs)
-plain_brake_slots Short vs = plain_switches 0 vs
-plain_brake_slots Long vs = plain_switch_runs 0 0 None vs
+plain_brake_runs : (f : Profile) (k n : ℕ) (u : Option Bool) (vs : List (Option Bool)) → Plain (brake_runs f k n u vs)
+plain_brake_runs f k n u [] = plain_shapes _
+plain_brake_runs f k n u (v ∷ vs) =
+    plain_if _ _ _ (plain_brake_runs f k (n + 1) u vs) (plain_append _ _ (plain_shapes _) (plain_brake_runs f (k + n) 1 v vs))
 
 pub plain_before_chart : (n : ℕ) (p : PrePart) → Plain (before_chart n p)
 unfolding before_chart time_lines drawn_lane
-plain_before_chart n p = search (plain_points, plain_cells_of, plain_brake_slots, plains) depth 60 fits 4000
+plain_before_chart n p = search (plain_points, plain_cells, plain_brake_runs, plains) depth 60 fits 4000
 
 -- ---- the chart after time zero
 

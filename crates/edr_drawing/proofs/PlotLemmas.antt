@@ -8,7 +8,7 @@ use Rattle.edr_drawing.specs.declared.scales.Direction.{Direction}
 use Rattle.edr_drawing.specs.declared.scales.Direction.TheVariants.{Up, Down}
 use Rattle.edr_drawing.specs.Scales.{reach_of, below_top, furthest, least_step, reach, step_of, part_of, scale_of, change_y}
 use Rattle.edr_drawing.specs.declared.scales.TheConstants.{CHANGE_LINES, CHANGE_STEPS, LAST_CHANGE_STEP}
-use Rattle.edr_drawing.specs.Laws.{StandsIn}
+use Rattle.edr_drawing.specs.Laws.{IsInPlot}
 use Rattle.std.proofs.lemmas.Nat.{le-div}
 use Rattle.std.specs.Int.{next_multiple_of}
 use Rattle.edr_drawing.specs.declared.before.ChartLane.{ChartLane}
@@ -36,7 +36,7 @@ change_lower s v w some grows =
 below_both : (top bottom : ℕ) (v : ℤ) → reach_of Up v ≤ top → reach_of Down v ≤ bottom → below_top top v ≤ top + bottom
 below_both top bottom v rises falls = grind (arith, rises, falls)
 
-stands : (s : Scale) (v : ℤ) → 1 ≤ s.top + s.bottom → reach_of Up v ≤ s.top → reach_of Down v ≤ s.bottom → StandsIn s v
+stands : (s : Scale) (v : ℤ) → 1 ≤ s.top + s.bottom → reach_of Up v ≤ s.top → reach_of Down v ≤ s.bottom → IsInPlot s v
 stands s v some rises falls =
     let most = mul-le-mul_right 370 (below_both s.top s.bottom v rises falls) in
     let quotient : below_top s.top v * 370 / (s.top + s.bottom) ≤ 370 = div-le_of_le-mul (s.top + s.bottom) most in
@@ -71,7 +71,7 @@ some_step (s ∷ steps) last most up down all some =
     grind (arith, All-head (λ (x : ℕ). 1 ≤ x) s steps all, some_step steps last most up down (All-tail (λ (x : ℕ). 1 ≤ x) s steps all) some)
 
 -- a change within the reach of a crash part stands in its plot
-pub stands_in : (c : CrashPart) (v : ℤ) → reach_of Up v ≤ reach Up c → reach_of Down v ≤ reach Down c → StandsIn (scale_of c) v
+pub stands_in : (c : CrashPart) (v : ℤ) → reach_of Up v ≤ reach Up c → reach_of Down v ≤ reach Down c → IsInPlot (scale_of c) v
 stands_in c v rises falls =
     let up = reach Up c in
     let down = reach Down c in
@@ -82,7 +82,7 @@ stands_in c v rises falls =
     (omega (arith, falls, part_reaches up down step down some (omega arith)))
 
 -- the points of an axis, which reach no further than the crash part
-pub axis_stands : (c : CrashPart) (vs : List ℤ) → ((way : Direction) → furthest way vs ≤ reach way c) → All (StandsIn (scale_of c)) vs
+pub axis_stands : (c : CrashPart) (vs : List ℤ) → ((way : Direction) → furthest way vs ≤ reach way c) → All (IsInPlot (scale_of c)) vs
 axis_stands c vs within k d in_range =
     let rises = reaches_all Up vs k d in_range in
     let falls = reaches_all Down vs k d in_range in

@@ -1,22 +1,18 @@
 -- The chart of the seconds before time zero, five of a short profile and twenty of a long one: lanes of slots, each a path through those that are there, their marks, and fields in the place of those that are absent.
-use Rattle.std.specs.Prelude.{◌≤◌, ℕ, ◌+◌, ◌-◌, ◌*◌, ◌/◌, Bool, true, false, if◌then◌else◌, nat_eq, nat_lt, Option, Some, None, List, [], ◌∷◌, ◌++◌, decimal, max, unwrap_or}
-use Rattle.std.specs.{Bool.beq, Option.option_eq, Int.next_multiple_of}
-use Rattle.edr_record.specs.declared.Profile.{Profile}
-use Rattle.edr_record.specs.declared.Profile.TheVariants.{Short, Long}
+use Rattle.std.specs.Prelude.{◌≤◌, ℕ, ◌+◌, ◌-◌, ◌*◌, ◌/◌, Bool, true, false, ◌&&◌, if◌then◌else◌, nat_eq, nat_le, nat_lt, Option, Some, None, List, [], ◌∷◌, ◌++◌, decimal, fold, max, unwrap_or}
+use Rattle.std.specs.{Bool.beq, Int.next_multiple_of, Option.option_eq}
+use Rattle.edr_record.specs.{Parts.PrePart, declared.Profile.{Profile, TheVariants.{Short, Long}}}
 use Rattle.edr_drawing.specs.declared.template.Shape.{Shape}
 use Rattle.edr_drawing.specs.declared.template.Shape.TheVariants as shape
 use Rattle.edr_drawing.specs.declared.template.TheConstants.{FIELD_CLASSES, PATH, PATH_END, RADII, SWITCH_WORDS}
-use Rattle.edr_drawing.specs.declared.before.Band.{Band}
-use Rattle.edr_drawing.specs.declared.before.ChartLane.{ChartLane}
-use Rattle.edr_drawing.specs.declared.before.TheConstants.{FIELD_WIDTH, GRID_LINE, ROOM_FOR_WORD, BEFORE_END, BEFORE_HEAD, BRAKE_BAND, BRAKE_NAME, LEFT_OF_MOMENT, MOMENT, MOMENT_NAME_DOWN, MOMENT_NAMES, MOMENT_WORD_DOWN, MOMENTS_Y, LAST_SPEED_STEP, SECOND_SLOTS, SLOTS_APART, SPANS, SPEED, SPEED_LINES, SPEED_STEPS, THROTTLE, THROTTLE_NAME, TIME_LINE, TIMES, ZERO_LINE}
+use Rattle.edr_drawing.specs.declared.before.{Band.Band, ChartLane.ChartLane}
+use Rattle.edr_drawing.specs.declared.before.TheConstants.{BEFORE_END, BEFORE_HEAD, BELT, BRAKE_BAND, BRAKE_NAME, GRID_LINE, LAMP, LAST_SPEED_STEP, LONGEST_RUNS, MOMENT, PAST_SLOTS, ROOM_FOR_WORD, SECOND_SLOTS, SLOTS_APART, SPANS, SPEED, SPEED_LINES, SPEED_STEPS, TENTHS_APART, THROTTLE, THROTTLE_NAME, TIME_LINE, TIMES, ZERO_LINE}
 use Rattle.edr_drawing.specs.Template.{filled, fixed, of_profile, of_switch, seconds, shapes_bytes}
-use Rattle.edr_drawing.specs.declared.scales.TheConstants.{AXIS_DIGITS}
-use Rattle.edr_drawing.specs.Scales.{slot_x, flat_map_below, least_step}
-use Rattle.edr_record.specs.Parts.{PrePart}
+use Rattle.edr_drawing.specs.{declared.scales.TheConstants.AXIS_DIGITS, Scales.{flat_map_below, least_step, slot_x}}
 
 -- up: a value between the foot and the top of a lane
 abbrev pub lane_y : ChartLane → ℕ → ℕ
-lane_y l value = l.foot - value * l.rise / l.top
+lane_y l value = l.gap.y + l.gap.height - value * l.rise / l.top
 
 -- the line of a value, with its number
 abbrev pub grid_line : ChartLane → ℕ → List ℕ
@@ -36,60 +32,40 @@ points f l k before [] = []
 points f l k before (None ∷ vs) = points f l (k + 1) false vs
 points f l k before (Some v ∷ vs) = point f l k before v ++ points f l (k + 1) true vs
 
--- ---- a short profile: a mark with its number for each slot that is there, and a field for each that is absent
+-- the mark of a slot, of a short profile with its number
+abbrev pub mark : Profile → ChartLane → ℕ → ℕ → Shape
+mark f l k value = shape.Dot (slot_x f k) (lane_y l value) (of_profile f RADII)
 
--- up: the word of a field
-abbrev pub word_y : Band → ℕ
-word_y b = b.y + b.height / 2 + 9
+abbrev pub marked : Profile → ChartLane → ℕ → ℕ → List Shape
+marked Short l k value = mark Short l k value ∷ shape.Value (slot_x Short k) (lane_y l value - 17) value ∷ []
+marked Long l k value = mark Long l k value ∷ []
 
--- the field of a slot, with its word
-abbrev pub field_shapes : ℕ → Band → Option Bool → List Shape
-field_shapes x b v = shape.Field (x - FIELD_WIDTH / 2) b.y FIELD_WIDTH b.height v ∷ shape.Word x (word_y b) v ∷ []
+-- the field of the slots from k to m, with its word if there is room for it
+abbrev pub field_shapes : Profile → ℕ → ℕ → Band → Option Bool → Bool → List Shape
+field_shapes f k m b v has_room =
+    shape.Field (slot_x f k - of_profile f PAST_SLOTS) b.y (slot_x f m + 2 * of_profile f PAST_SLOTS - slot_x f k) b.height v
+    ∷ (if has_room then shape.Word ((slot_x f k + slot_x f m) / 2) (b.y + b.height / 2 + 9) v ∷ [] else [])
 
--- what stands in the place of a slot
-abbrev pub cell : ChartLane → ℕ → Option ℕ → List Shape
-cell l k None = field_shapes (slot_x Short k) l.gap None
-cell l k (Some v) = shape.Dot (slot_x Short k) (lane_y l v) RADII.0 ∷ shape.Value (slot_x Short k) (lane_y l v - 17) v ∷ []
+-- the field of n slots from k on, if there are any
+abbrev pub run_shapes : Profile → ℕ → ℕ → Band → Option Bool → List Shape
+run_shapes f k n b v = if nat_eq n 0 then [] else field_shapes f k (k + n - 1) b v (nat_le (of_profile f ROOM_FOR_WORD) n)
 
-abbrev pub cells : ChartLane → ℕ → List (Option ℕ) → List ℕ
-cells l k [] = []
-cells l k (v ∷ vs) = shapes_bytes (cell l k v) ++ cells l (k + 1) vs
+abbrev pub run_bytes : Profile → ℕ → ℕ → Band → Option Bool → List ℕ
+run_bytes f k n b v = shapes_bytes (run_shapes f k n b v)
 
--- ---- a long profile: a small mark for each slot that is there, and a field for each run of absent ones
-
--- the field of n slots from slot k on, if there are any, with its word where there is room for it
-abbrev pub run_word : ℕ → ℕ → Band → Option Bool → List Shape
-run_word k n b v =
-    if nat_lt n ROOM_FOR_WORD
-    then []
-    else shape.Word ((slot_x Long k + slot_x Long (k + n - 1)) / 2) (word_y b) v ∷ []
-
-abbrev pub run_shapes : ℕ → ℕ → Band → Option Bool → List Shape
-run_shapes k n b v =
-    if nat_eq n 0
-    then []
-    else shape.Field (slot_x Long k - 3) b.y (slot_x Long (k + n - 1) + 6 - slot_x Long k) b.height v ∷ run_word k n b v
-
-abbrev pub run_bytes : ℕ → ℕ → Band → Option Bool → List ℕ
-run_bytes k n b v = shapes_bytes (run_shapes k n b v)
-
--- these slots after n absent ones, the first of which has the number k
-abbrev pub long_cells : ChartLane → ℕ → ℕ → List (Option ℕ) → List ℕ
-long_cells l k n [] = run_bytes k n l.gap None
-long_cells l k n (None ∷ vs) = long_cells l k (n + 1) vs
-long_cells l k n (Some v ∷ vs) =
-    run_bytes k n l.gap None
-    ++ shapes_bytes (shape.Dot (slot_x Long (k + n)) (lane_y l v) RADII.1 ∷ [])
-    ++ long_cells l (k + n + 1) 0 vs
-
--- the marks and fields of the slots of a profile
-abbrev pub cells_of : Profile → ChartLane → List (Option ℕ) → List ℕ
-cells_of Short l vs = cells l 0 vs
-cells_of Long l vs = long_cells l 0 0 vs
+-- these slots after n absent ones, the first of which has the number k: a mark for each that is there, and a field for each run of
+-- absent ones, which has as many as a run of the profile may have
+abbrev pub cells : Profile → ChartLane → ℕ → ℕ → List (Option ℕ) → List ℕ
+cells f l k n [] = run_bytes f k n l.gap None
+cells f l k n (None ∷ vs) =
+    if nat_lt n (of_profile f LONGEST_RUNS)
+    then cells f l k (n + 1) vs
+    else run_bytes f k n l.gap None ++ cells f l (k + n) 1 vs
+cells f l k n (Some v ∷ vs) = run_bytes f k n l.gap None ++ shapes_bytes (marked f l (k + n) v) ++ cells f l (k + n + 1) 0 vs
 
 unfoldable pub drawn_lane : Profile → ChartLane → List (Option ℕ) → List ℕ
 drawn_lane f l vs =
-    grid l ++ filled PATH.now (decimal AXIS_DIGITS.0 ∷ []) ++ points f l 0 false vs ++ fixed PATH_END.now ++ cells_of f l vs
+    grid l ++ filled PATH.now (decimal AXIS_DIGITS.0 ∷ []) ++ points f l 0 false vs ++ fixed PATH_END.now ++ cells f l 0 0 vs
 
 -- what fields keep to
 pub record IsBand (b : Band) : Type 0 where
@@ -100,81 +76,49 @@ pub record IsBand (b : Band) : Type 0 where
 pub record IsChartLane (l : ChartLane) : Type 0 where
   pub top : (1 ≤ l.top) × (l.top ≤ 100_000)
   pub step : 1 ≤ l.step
-  pub place : (l.rise ≤ 1_000) × (l.foot ≤ 1_000)
+  pub rise : l.rise ≤ 1_000
   pub gap : IsBand l.gap
 
--- ---- the lanes of speed and throttle
-
--- the greatest value that is there, or 0
-abbrev pub greatest : List (Option ℕ) → ℕ
-greatest [] = 0
-greatest (v ∷ vs) = max (unwrap_or v 0) (greatest vs)
-
 -- the lane of speed: its top is at least 1 km/h, and it has few steps
-abbrev pub speed_step : ℕ → ℕ
-speed_step most = least_step SPEED_STEPS LAST_SPEED_STEP SPEED_LINES most 0
-
-abbrev pub speed_scale : ℕ → ChartLane
-speed_scale most = record SPEED { top = next_multiple_of most (speed_step most); step = speed_step most }
+abbrev pub lane_up_to : ℕ → ChartLane
+lane_up_to most =
+    let step = least_step SPEED_STEPS LAST_SPEED_STEP SPEED_LINES most 0 in
+    record SPEED { top = next_multiple_of most step; step = step }
 
 abbrev pub speed_lane : List (Option ℕ) → ChartLane
-speed_lane slots = speed_scale (max (greatest slots) 1)
+speed_lane slots = lane_up_to (max (fold (λ most v. max most (unwrap_or v 0)) 0 slots) 1)
 
--- ---- the lines of the times
-
--- how long before time zero a time is, in tenths of a second
-abbrev pub tenths_before : Profile → ℕ → ℕ
-tenths_before Short k = 50 - 5 * k
-tenths_before Long k = 200 - 20 * k
-
+-- the line of a time, with how long before time zero it is
 abbrev pub time_line : Profile → ℕ → List ℕ
-time_line f k = filled TIME_LINE.now (decimal (slot_x Short k) ∷ seconds (tenths_before f k) ∷ [])
+time_line f k = filled TIME_LINE.now (decimal (slot_x Short k) ∷ seconds (of_profile f TENTHS_APART * (TIMES - k)) ∷ [])
 
 unfoldable pub time_lines : Profile → ℕ → List ℕ
 time_lines f count = flat_map_below (time_line f) count
 
--- ---- the service brake
+-- the service brake: these slots after n that are all u, the first of which has the number k, with a field for each run
+abbrev pub brake_runs : Profile → ℕ → ℕ → Option Bool → List (Option Bool) → List ℕ
+brake_runs f k n u [] = run_bytes f k n BRAKE_BAND u
+brake_runs f k n u (v ∷ vs) =
+    if option_eq beq v u && nat_lt n (of_profile f LONGEST_RUNS)
+    then brake_runs f k (n + 1) u vs
+    else run_bytes f k n BRAKE_BAND u ++ brake_runs f (k + n) 1 v vs
 
--- the slots of a short profile, each with its field
-abbrev pub switches : ℕ → List (Option Bool) → List ℕ
-switches k [] = []
-switches k (v ∷ vs) = shapes_bytes (field_shapes (slot_x Short k) BRAKE_BAND v) ++ switches (k + 1) vs
-
--- these slots after n that are all u, the first of which has the number k: a field for each run of slots that are the same
-abbrev pub switch_runs : ℕ → ℕ → Option Bool → List (Option Bool) → List ℕ
-switch_runs k n u [] = run_bytes k n BRAKE_BAND u
-switch_runs k n u (v ∷ vs) =
-    if option_eq beq u v
-    then switch_runs k (n + 1) u vs
-    else run_bytes k n BRAKE_BAND u ++ switch_runs (k + n) 1 v vs
-
-abbrev pub brake_slots : Profile → List (Option Bool) → List ℕ
-brake_slots Short vs = switches 0 vs
-brake_slots Long vs = switch_runs 0 0 None vs
-
--- ---- belt and lamp
-
--- across: 1 s before time zero
-abbrev pub second_x : Profile → ℕ
-second_x Short = slot_x Short SECOND_SLOTS.0
-second_x Long = slot_x Long SECOND_SLOTS.1
-
--- the name of a switch, and what it is then
-abbrev pub switch_moment : Profile → ℕ → List ℕ → Option Bool → List ℕ
-switch_moment f y name v =
+-- the name of belt or lamp, and what it is 1 s before time zero
+abbrev pub switch_moment : Profile → List ℕ → ℕ → Option Bool → List ℕ
+switch_moment f name y v =
+    let x = slot_x f (of_profile f SECOND_SLOTS) in
     filled MOMENT.now
-    (decimal (second_x f)
+    (decimal x
     ∷ decimal y
     ∷ (of_switch v FIELD_CLASSES).now
-    ∷ decimal (second_x f - LEFT_OF_MOMENT)
-    ∷ decimal (y + MOMENT_WORD_DOWN)
+    ∷ decimal (x - 18)
+    ∷ decimal (y + 25)
     ∷ (of_switch v SWITCH_WORDS).now
-    ∷ decimal (y + MOMENT_NAME_DOWN)
+    ∷ decimal (y + 24)
     ∷ name
     ∷ [])
 
--- ---- the whole chart
-
+-- the whole chart
 unfoldable pub before_chart : ℕ → PrePart → List ℕ
 before_chart n p =
     filled BEFORE_HEAD.now (decimal n ∷ (of_profile p.profile SPANS).now ∷ (of_profile p.profile SLOTS_APART).now ∷ [])
@@ -184,7 +128,7 @@ before_chart n p =
     ++ fixed THROTTLE_NAME.now
     ++ drawn_lane p.profile THROTTLE p.throttle
     ++ fixed BRAKE_NAME.now
-    ++ brake_slots p.profile p.brake
-    ++ switch_moment p.profile MOMENTS_Y.0 MOMENT_NAMES.0.now p.belt
-    ++ switch_moment p.profile MOMENTS_Y.1 MOMENT_NAMES.1.now p.lamp
+    ++ brake_runs p.profile 0 0 None p.brake
+    ++ switch_moment p.profile BELT.0.now BELT.1 p.belt
+    ++ switch_moment p.profile LAMP.0.now LAMP.1 p.lamp
     ++ fixed BEFORE_END.now

@@ -1,11 +1,10 @@
 //! The chart of the seconds before time zero, five of a short profile and twenty of a long one: lanes of slots, each a path
 //! through those that are there, their marks, and fields in the place of those that are absent.
 
-ghost use Rattle.std.specs.Prelude.{◌≡◌, ◌++◌, ◌≤◌, ◌<◌, ◌+◌, ◌*◌, ◌-◌, ◌/◌, false, OnOk, length, None, take};
-ghost use Rattle.edr_record.specs.declared.TheConstants.{LONG_SLOTS, SHORT_SLOTS};
-ghost use Rattle.edr_record.specs.Bounds.{slots_in};
-ghost use Rattle.edr_drawing.specs.Template.{shapes_bytes};
-ghost use Rattle.edr_drawing.specs.Before.{IsBand, IsChartLane, cells, drawn_lane, field_shapes, grid, lane_y, long_cells, points, run_bytes, before_chart, brake_slots, greatest, speed_lane, switch_runs, switch_moment, switches, tenths_before, time_lines};
+ghost use Rattle.std.specs.Prelude.{◌≡◌, ◌++◌, ◌≤◌, ◌<◌, ◌+◌, ◌-◌, ◌*◌, ◌/◌, false, OnOk, length, None, take};
+ghost use Rattle.edr_record.specs.{Bounds.slots_in, declared.TheConstants.LONG_SLOTS};
+ghost use Rattle.edr_drawing.specs.Template.{of_profile, shapes_bytes};
+ghost use Rattle.edr_drawing.specs.Before.{IsBand, IsChartLane, before_chart, brake_runs, cells, drawn_lane, grid, lane_y, marked, points, run_shapes, speed_lane, switch_moment, time_lines};
 
 use crate::scales::{AXIS_DIGITS, least_step, slot_x};
 use crate::template::Filling::{Count, Number, Seconds, Text};
@@ -20,11 +19,13 @@ pub const GRID_LINE: &[u8] = br#"<path class="grid" d="M330 {0}L1830 {0}"/>
 <text x="316" y="{1}" class="e s">{2}</text>
 "#;
 
-/// How wide the field of a slot of a short profile is.
-pub const FIELD_WIDTH: u32 = 100;
+/// Of a short profile and of a long one: how many slots the field of a run has at most, how far it reaches past its first
+/// one and its last one, and from how many on it has room for its word.
+pub const LONGEST_RUNS: (u32, u32) = (1, LONG_SLOTS as u32);
 
-/// From this many slots on, the field of a run has room for its word.
-pub const ROOM_FOR_WORD: u32 = 10;
+pub const PAST_SLOTS: (u32, u32) = (50, 3);
+
+pub const ROOM_FOR_WORD: (u32, u32) = (1, 10);
 
 /// Where fields stand up, and how high they are.
 #[derive(Clone, Copy)]
@@ -33,15 +34,14 @@ pub struct Band {
     pub height: u32,
 }
 
-/// A lane: where its 0 stands, how far above that its top stands, which value that is, the step between its lines, and
-/// where the fields of absent slots stand.
+/// A lane: where the fields of absent slots stand, at whose foot its 0 stands, how far above that its top stands, which
+/// value that is, and the step between its lines.
 #[derive(Clone, Copy)]
 pub struct ChartLane {
-    pub foot: u32,
+    pub gap: Band,
     pub rise: u32,
     pub top: u32,
     pub step: u32,
-    pub gap: Band,
 }
 
 // Where a value stands up.
@@ -49,9 +49,10 @@ fn lane_y(lane: &ChartLane, value: u32) -> u32
     requires lane { IsChartLane lane.now }
     requires value { value ≤ 100_000 }
     ensures place { result ≡ lane_y lane.now value }
-    ensures range { result ≤ 1_000 }
+    ensures range { result ≤ 2_000 }
 {
-    lane.foot.saturating_sub(value * lane.rise / lane.top)
+    let foot = lane.gap.y + lane.gap.height;
+    foot.saturating_sub(value * lane.rise / lane.top)
 }
 
 // Draws a line at each step.
@@ -68,112 +69,95 @@ fn draw_grid(out: &mut Vec<u8>, lane: &ChartLane) -> Drawn
     Ok(())
 }
 
-// Appends the points of all slots that are there.
+// Appends the points of the slots that are there, each joined to the slot before it where that is there too.
 fn put_points(out: &mut Vec<u8>, profile: Profile, lane: &ChartLane, slots: &[Option<u16>]) -> Drawn
     requires lane { IsChartLane lane.now }
     requires slots { length slots.now ≤ LONG_SLOTS }
     ensures { OnOk result (out.new.items ≡ out.old.items ++ points profile lane.now 0 false slots.now) }
 {
-    let mut before = false;
-    for k in 0..slots.len() {
-        match slots[k] {
-            Some(value) => {
-                let x = slot_x(profile, k as u32);
-                let y = lane_y(lane, u32::from(value));
-                draw(out, &[Shape::Joint(before, x, y)])?;
-                before = true;
-            }
-            None => before = false,
+    let mut is_joined = false;
+    for (k, slot) in slots.iter().enumerate() {
+        if let Some(value) = slot {
+            let x = slot_x(profile, k as u32);
+            let y = lane_y(lane, u32::from(*value));
+            draw(out, &[Shape::Joint(is_joined, x, y)])?;
         }
+        is_joined = slot.is_some();
     }
     Ok(())
 }
 
-/// Draws the field of a slot of a short profile, which stands there and shows this.
-pub fn draw_field(out: &mut Vec<u8>, x: u32, band: Band, shows: Option<bool>) -> Drawn
-    requires across { (400 ≤ x) × (x ≤ 30_000) }
-    requires up { IsBand band }
-    ensures { OnOk result (out.new.items ≡ out.old.items ++ shapes_bytes (field_shapes x band shows)) }
-{
-    let Band { y, height } = band;
-    let field = Shape::Field(x - FIELD_WIDTH / 2, y, FIELD_WIDTH, height, shows);
-    draw(out, &[field, Shape::Word(x, y + height / 2 + 9, shows)])
-}
-
-// Draws the mark or the field of each slot of a short profile.
-fn draw_short(out: &mut Vec<u8>, lane: &ChartLane, slots: &[Option<u16>]) -> Drawn
+// Draws the mark of a slot, of a short profile with its number.
+fn draw_mark(out: &mut Vec<u8>, profile: Profile, lane: &ChartLane, k: u32, value: u16) -> Drawn
     requires lane { IsChartLane lane.now }
-    requires slots { length slots.now ≤ SHORT_SLOTS }
-    ensures { OnOk result (out.new.items ≡ out.old.items ++ cells lane.now 0 slots.now) }
+    requires slot { k < LONG_SLOTS }
+    ensures { OnOk result (out.new.items ≡ out.old.items ++ shapes_bytes (marked profile lane.now k value)) }
 {
-    for k in 0..slots.len() {
-        let x = slot_x(Profile::Short, k as u32);
-        match slots[k] {
-            Some(value) => {
-                let value = u32::from(value);
-                let y = lane_y(lane, value);
-                let number = Shape::Value(x, y.saturating_sub(17), value);
-                draw(out, &[Shape::Dot(x, y, RADII.0), number])?;
-            }
-            None => draw_field(out, x, lane.gap, None)?,
-        }
+    let value = u32::from(value);
+    let (x, y) = (slot_x(profile, k), lane_y(lane, value));
+    let dot = Shape::Dot(x, y, of_profile(profile, RADII));
+    match profile {
+        Profile::Short => draw(out, &[dot, Shape::Value(x, y.saturating_sub(17), value)]),
+        Profile::Long => draw(out, &[dot]),
     }
-    Ok(())
 }
 
-/// Draws the field of a run of slots of a long profile, if there are any.
-pub fn draw_run(out: &mut Vec<u8>, first: u32, count: u32, band: Band, shows: Option<bool>) -> Drawn
+// Draws the field of so many slots from the first one on, if there are any.
+fn draw_run(
+    out: &mut Vec<u8>,
+    profile: Profile,
+    first: u32,
+    count: u32,
+    band: Band,
+    shows: Option<bool>,
+) -> Drawn
     requires run { first + count ≤ LONG_SLOTS }
     requires up { IsBand band }
-    ensures { OnOk result (out.new.items ≡ out.old.items ++ run_bytes first count band shows) }
+    ensures { OnOk result (out.new.items ≡ out.old.items ++ shapes_bytes (run_shapes profile first count band shows)) }
 {
-    let Band { y, height } = band;
     if count == 0 {
         return Ok(());
     }
-    let x = slot_x(Profile::Long, first);
-    let to_x = slot_x(Profile::Long, first + count - 1);
-    let width = (to_x + 6).saturating_sub(x);
-    let field = Shape::Field(x - 3, y, width, height, shows);
-    if count < ROOM_FOR_WORD {
+    let Band { y, height } = band;
+    let (x, to_x) = (slot_x(profile, first), slot_x(profile, first + count - 1));
+    let past = of_profile(profile, PAST_SLOTS);
+    let width = (to_x + 2 * past).saturating_sub(x);
+    let field = Shape::Field(x - past, y, width, height, shows);
+    if count < of_profile(profile, ROOM_FOR_WORD) {
         return draw(out, &[field]);
     }
     let word = Shape::Word((x + to_x) / 2, y + height / 2 + 9, shows);
     draw(out, &[field, word])
 }
 
-// Draws the marks of a long profile, and a field for each run of absent slots.
-fn draw_long(out: &mut Vec<u8>, lane: &ChartLane, slots: &[Option<u16>]) -> Drawn
+// Draws the marks of the slots, and a field for each run of absent ones.
+fn draw_cells(out: &mut Vec<u8>, profile: Profile, lane: &ChartLane, slots: &[Option<u16>]) -> Drawn
     requires lane { IsChartLane lane.now }
     requires slots { length slots.now ≤ LONG_SLOTS }
-    ensures { OnOk result (out.new.items ≡ out.old.items ++ long_cells lane.now 0 0 slots.now) }
+    ensures { OnOk result (out.new.items ≡ out.old.items ++ cells profile lane.now 0 0 slots.now) }
 {
-    let mut first = 0;
-    let mut absent = 0;
-    for k in 0..slots.len() {
-        match slots[k] {
-            Some(value) => {
-                draw_run(out, first, absent, lane.gap, None)?;
-                let x = slot_x(Profile::Long, first + absent);
-                let y = lane_y(lane, u32::from(value));
-                draw(out, &[Shape::Dot(x, y, RADII.1)])?;
-                first = first + absent + 1;
-                absent = 0;
+    let longest = of_profile(profile, LONGEST_RUNS);
+    let (mut first, mut absent) = (0, 0);
+    for slot in slots {
+        match *slot {
+            None if absent < longest => absent += 1,
+            None => {
+                draw_run(out, profile, first, absent, lane.gap, None)?;
+                (first, absent) = (first + absent, 1);
             }
-            None => absent += 1,
+            Some(value) => {
+                draw_run(out, profile, first, absent, lane.gap, None)?;
+                draw_mark(out, profile, lane, first + absent, value)?;
+                (first, absent) = (first + absent + 1, 0);
+            }
         }
     }
-    draw_run(out, first, absent, lane.gap, None)
+    draw_run(out, profile, first, absent, lane.gap, None)
 }
 
-/// Draws the lane of these slots.
+// Draws the lane of these slots.
 #[tactic(auto, unfolding(crate::specs::Before::drawn_lane))]
-pub fn draw_lane(
-    out: &mut Vec<u8>,
-    profile: Profile,
-    lane: &ChartLane,
-    slots: &[Option<u16>],
-) -> Drawn
+fn draw_lane(out: &mut Vec<u8>, profile: Profile, lane: &ChartLane, slots: &[Option<u16>]) -> Drawn
     requires lane { IsChartLane lane.now }
     requires slots { length slots.now ≤ slots_in profile }
     ensures { OnOk result (out.new.items ≡ out.old.items ++ drawn_lane profile lane.now slots.now) }
@@ -182,10 +166,7 @@ pub fn draw_lane(
     fill(out, PATH, &[Number(AXIS_DIGITS.0)])?;
     put_points(out, profile, lane, slots)?;
     put(out, PATH_END)?;
-    match profile {
-        Profile::Short => draw_short(out, lane, slots),
-        Profile::Long => draw_long(out, lane, slots),
-    }
+    draw_cells(out, profile, lane, slots)
 }
 
 /// The title, the description and the plot.
@@ -200,6 +181,11 @@ pub const BEFORE_HEAD: &[u8] =
 pub const SPANS: (&[u8], &[u8]) = (b"five", b"twenty");
 
 pub const SLOTS_APART: (&[u8], &[u8]) = (b"half second", b"tenth of a second");
+
+/// How many lines of times there are before time zero, and how many tenths of a second the next one is from each.
+pub const TIMES: u32 = 10;
+
+pub const TENTHS_APART: (u32, u32) = (5, 20);
 
 /// The line of a time, with how long before time zero it is.
 pub const TIME_LINE: &[u8] = br#"<path class="grid" d="M{0} 36L{0} 490"/>
@@ -232,31 +218,23 @@ pub const MOMENT: &[u8] = br#"<text x="0" y="{6}"><tspan class="b">{7}</tspan> a
 "#;
 
 /// The names of these switches, and where their marks begin.
-pub const MOMENT_NAMES: (&[u8], &[u8]) = (b"Driver belt", b"Air bag lamp");
+pub const BELT: (&[u8], u32) = (b"Driver belt", 411);
 
-pub const MOMENTS_Y: (u32, u32) = (411, 453);
+pub const LAMP: (&[u8], u32) = (b"Air bag lamp", 453);
 
-/// How far below that their words and their names stand, and how far left of the mark its word.
-pub const MOMENT_WORD_DOWN: u32 = 25;
-
-pub const MOMENT_NAME_DOWN: u32 = 24;
-
-pub const LEFT_OF_MOMENT: u32 = 18;
+/// The slots of a short profile and of a long one that lie 1 s before time zero.
+pub const SECOND_SLOTS: (u32, u32) = (8, 190);
 
 pub const BEFORE_END: &[u8] = br#"<path class="part" d="M0 490L1830 490"/>
 </svg>
 "#;
 
-/// How many lines of times there are before time zero.
-pub const TIMES: u32 = 10;
-
 /// The lane of speed, whose top and step the greatest speed gives.
 pub const SPEED: ChartLane = ChartLane {
-    foot: 220,
+    gap: Band { y: 50, height: 170 },
     rise: 140,
     top: 1,
     step: 1,
-    gap: Band { y: 50, height: 170 },
 };
 
 /// The steps in km/h that its lines may have, at most [`SPEED_LINES`] of them.
@@ -267,51 +245,29 @@ pub const LAST_SPEED_STEP: u32 = 100;
 pub const SPEED_LINES: u32 = 4;
 
 pub const THROTTLE: ChartLane = ChartLane {
-    foot: 346,
+    gap: Band { y: 250, height: 96 },
     rise: 70,
     top: 100,
     step: 50,
-    gap: Band { y: 250, height: 96 },
 };
 
 /// Where the fields of the service brake stand.
 pub const BRAKE_BAND: Band = Band { y: 367, height: 34 };
 
-/// The slots of a short profile and of a long one that lie 1 s before time zero.
-pub const SECOND_SLOTS: (u32, u32) = (8, 190);
-
-// The greatest value that is there, or 0.
-fn greatest(slots: &[Option<u16>]) -> u16
-    ensures { result ≡ greatest slots.now }
-{
-    let mut most = 0;
-    for slot in slots {
-        most = slot.unwrap_or(0).max(most);
-    }
-    most
-}
-
+// The lane of speed, whose top is at least 1 km/h.
 fn speed_lane(slots: &[Option<u16>]) -> ChartLane
     ensures lane { result ≡ speed_lane slots.now }
     ensures within { IsChartLane result }
 {
-    let most = u32::from(greatest(slots).max(1));
+    let most = slots
+        .iter()
+        .fold(0, |most: u16, slot| most.max(slot.unwrap_or(0)));
+    let most = u32::from(most.max(1));
     let step = least_step(&SPEED_STEPS, LAST_SPEED_STEP, SPEED_LINES, most, 0);
     ChartLane {
         top: most.next_multiple_of(step),
         step,
         ..SPEED
-    }
-}
-
-// How long before time zero a time is, in tenths of a second.
-fn tenths_before(profile: Profile, k: u32) -> u32
-    requires { k < 10 }
-    ensures { result ≡ tenths_before profile k }
-{
-    match profile {
-        Profile::Short => 50 - 5 * k,
-        Profile::Long => 200 - 20 * k,
     }
 }
 
@@ -322,8 +278,8 @@ fn draw_times(out: &mut Vec<u8>, profile: Profile) -> Drawn
 {
     for k in 0..TIMES {
         let x = Number(slot_x(Profile::Short, k));
-        let tenths = Seconds(u64::from(tenths_before(profile, k)));
-        fill(out, TIME_LINE, &[x, tenths])?;
+        let tenths = of_profile(profile, TENTHS_APART) * (TIMES - k);
+        fill(out, TIME_LINE, &[x, Seconds(u64::from(tenths))])?;
     }
     Ok(())
 }
@@ -341,81 +297,50 @@ fn wide_slots(slots: &[Option<u8>]) -> [Option<u16>; LONG_SLOTS]
     ensures { take (length slots.now) result ≡ slots.now }
 {
     let mut wider = [None; LONG_SLOTS];
-    for k in 0..slots.len() {
-        wider[k] = wide(slots[k]);
+    for (k, slot) in slots.iter().enumerate() {
+        wider[k] = wide(*slot);
     }
     wider
 }
 
-// Draws the field of each slot of a short profile.
-fn draw_short_brake(out: &mut Vec<u8>, slots: &[Option<bool>]) -> Drawn
-    requires { length slots.now ≤ SHORT_SLOTS }
-    ensures { OnOk result (out.new.items ≡ out.old.items ++ switches 0 slots.now) }
-{
-    for k in 0..slots.len() {
-        let x = slot_x(Profile::Short, k as u32);
-        draw_field(out, x, BRAKE_BAND, slots[k])?;
-    }
-    Ok(())
-}
-
-// Draws a field for each run of slots of a long profile that are the same.
-fn draw_long_brake(out: &mut Vec<u8>, slots: &[Option<bool>]) -> Drawn
-    requires { length slots.now ≤ LONG_SLOTS }
-    ensures { OnOk result (out.new.items ≡ out.old.items ++ switch_runs 0 0 None slots.now) }
-{
-    let mut first = 0;
-    let mut count = 0;
-    let mut switch = None;
-    for k in 0..slots.len() {
-        let next = slots[k];
-        if switch == next {
-            count += 1;
-        } else {
-            draw_run(out, first, count, BRAKE_BAND, switch)?;
-            first += count;
-            count = 1;
-            switch = next;
-        }
-    }
-    draw_run(out, first, count, BRAKE_BAND, switch)
-}
-
-// Draws the fields of the slots.
+// Draws a field for each run of slots of the service brake that are the same.
 fn draw_brake(out: &mut Vec<u8>, profile: Profile, slots: &[Option<bool>]) -> Drawn
     requires { length slots.now ≤ slots_in profile }
-    ensures { OnOk result (out.new.items ≡ out.old.items ++ brake_slots profile slots.now) }
+    ensures { OnOk result (out.new.items ≡ out.old.items ++ brake_runs profile 0 0 None slots.now) }
 {
-    match profile {
-        Profile::Short => draw_short_brake(out, slots),
-        Profile::Long => draw_long_brake(out, slots),
+    let longest = of_profile(profile, LONGEST_RUNS);
+    let (mut first, mut count, mut shows) = (0, 0, None);
+    for slot in slots {
+        if *slot == shows && count < longest {
+            count += 1;
+        } else {
+            draw_run(out, profile, first, count, BRAKE_BAND, shows)?;
+            (first, count, shows) = (first + count, 1, *slot);
+        }
     }
+    draw_run(out, profile, first, count, BRAKE_BAND, shows)
 }
 
 // Draws the name of a switch, and what it is 1 s before time zero.
 fn draw_moment(
     out: &mut Vec<u8>,
     profile: Profile,
-    y: u32,
-    name: &[u8],
+    switch: (&[u8], u32),
     shows: Option<bool>,
 ) -> Drawn
-    requires { y ≤ 1_000 }
-    ensures { OnOk result (out.new.items ≡ out.old.items ++ switch_moment profile y name.now shows) }
+    requires { switch.1 ≤ 1_000 }
+    ensures { OnOk result (out.new.items ≡ out.old.items ++ switch_moment profile switch.entry.0.now switch.entry.1 shows) }
 {
-    let second = match profile {
-        Profile::Short => SECOND_SLOTS.0,
-        Profile::Long => SECOND_SLOTS.1,
-    };
-    let x = slot_x(profile, second);
+    let (name, y) = switch;
+    let x = slot_x(profile, of_profile(profile, SECOND_SLOTS));
     let parts = [
         Number(x),
         Number(y),
         Text(of_switch(shows, FIELD_CLASSES)),
-        Number(x - LEFT_OF_MOMENT),
-        Number(y + MOMENT_WORD_DOWN),
+        Number(x - 18),
+        Number(y + 25),
         Text(of_switch(shows, SWITCH_WORDS)),
-        Number(y + MOMENT_NAME_DOWN),
+        Number(y + 24),
         Text(name),
     ];
     fill(out, MOMENT, &parts)
@@ -427,8 +352,7 @@ pub fn draw_before(out: &mut Vec<u8>, number: u64, pre: &Pre) -> Drawn
     ensures { OnOk result (out.new.items ≡ out.old.items ++ before_chart number pre.now) }
 {
     let (belt, lamp) = (pre.belt, pre.lamp);
-    let profile = pre.profile();
-    let speed = pre.speed();
+    let (profile, speed) = (pre.profile(), pre.speed());
     let throttle = wide_slots(pre.throttle());
     let span = Text(of_profile(profile, SPANS));
     let apart = Text(of_profile(profile, SLOTS_APART));
@@ -440,7 +364,7 @@ pub fn draw_before(out: &mut Vec<u8>, number: u64, pre: &Pre) -> Drawn
     draw_lane(out, profile, &THROTTLE, &throttle[..pre.throttle().len()])?;
     put(out, BRAKE_NAME)?;
     draw_brake(out, profile, pre.brake())?;
-    draw_moment(out, profile, MOMENTS_Y.0, MOMENT_NAMES.0, belt)?;
-    draw_moment(out, profile, MOMENTS_Y.1, MOMENT_NAMES.1, lamp)?;
+    draw_moment(out, profile, BELT, belt)?;
+    draw_moment(out, profile, LAMP, lamp)?;
     put(out, BEFORE_END)
 }

@@ -6,6 +6,7 @@ pub returns : goal.returns
 returns c = record {
   along = λ p. axis_stands p p.along (λ way. omega arith);
   across = λ p. axis_stands p p.across (λ way. omega arith);
-  greatest = λ p. (stands_in p p.max_along.kmh (omega arith) (omega arith), stands_in p p.max_across.kmh (omega arith) (omega arith));
+  max_along = λ p. stands_in p p.max_along.kmh (omega arith) (omega arith);
+  max_across = λ p. stands_in p p.max_across.kmh (omega arith) (omega arith);
   times = λ p t early. grind (arith, early);
 }
