@@ -34,7 +34,8 @@ use Rattle.edr_drawing.specs.Page.{page_bytes}
 use Rattle.edr_drawing.proofs.PlainLineLemmas.{plain_event_lines, plain_run_lines}
 
 plain_shape : (s : Shape) → Plain (shape_bytes s)
-plain_shape (shape.Joint joined x y) = search plains depth 20
+plain_shape (shape.Joint true x y) = search plains depth 20
+plain_shape (shape.Joint false x y) = search plains depth 20
 plain_shape s = search plains depth 20
 
 plain_shapes : (shapes : List Shape) → Plain (shapes_bytes shapes)

@@ -103,10 +103,9 @@ brake_runs f k n u (v ∷ vs) =
     then brake_runs f k (n + 1) u vs
     else run_bytes f k n BRAKE_BAND u ++ brake_runs f (k + n) 1 v vs
 
--- the name of belt or lamp, and what it is 1 s before time zero
-abbrev pub switch_moment : Profile → List ℕ → ℕ → Option Bool → List ℕ
-switch_moment f name y v =
-    let x = slot_x f (of_profile f SECOND_SLOTS) in
+-- the name of belt or lamp, and what it is 1 s before time zero, which stands at x
+abbrev pub switch_moment : ℕ → List ℕ → ℕ → Option Bool → List ℕ
+switch_moment x name y v =
     filled MOMENT.now
     (decimal x
     ∷ decimal y
@@ -117,6 +116,9 @@ switch_moment f name y v =
     ∷ decimal (y + 24)
     ∷ name
     ∷ [])
+
+abbrev pub second_x : Profile → ℕ
+second_x f = slot_x f (of_profile f SECOND_SLOTS)
 
 -- the whole chart
 unfoldable pub before_chart : ℕ → PrePart → List ℕ
@@ -129,6 +131,6 @@ before_chart n p =
     ++ drawn_lane p.profile THROTTLE p.throttle
     ++ fixed BRAKE_NAME.now
     ++ brake_runs p.profile 0 0 None p.brake
-    ++ switch_moment p.profile BELT.0.now BELT.1 p.belt
-    ++ switch_moment p.profile LAMP.0.now LAMP.1 p.lamp
+    ++ switch_moment (second_x p.profile) BELT.0.now BELT.1 p.belt
+    ++ switch_moment (second_x p.profile) LAMP.0.now LAMP.1 p.lamp
     ++ fixed BEFORE_END.now

@@ -15,7 +15,7 @@ use Rattle.edr_drawing.specs.declared.TheConstants.{VERSION}
 use Rattle.edr_drawing.specs.declared.scales.CarAxis.{CarAxis}
 use Rattle.edr_drawing.specs.declared.scales.CarAxis.TheVariants.{Along, Across}
 use Rattle.edr_drawing.specs.declared.sheets.TheConstants.{DAMAGED_BANK, DAMAGED_START, EVENT_ROW, EVENTS_START, FIRST_FOOT, FIRST_SHEET, SET_OR_NOT, LIST_END, YES_NO, ELSEWHERE, EVENT, IF_SAME_CYCLE, OR_EVENT, PLACE_END, PLACE_START, SECOND_AFTER, PART_ABSENT, PROFILES, REASONS_START, SAMPLED, SAMPLES_ABSENT, SHEET_FOOT, SHEET_HEAD, SWITCHES, SWITCH_ABSENT, WINDOW_ABSENT}
-use Rattle.edr_drawing.specs.declared.long.TheConstants.{FORM, NOTES}
+use Rattle.edr_drawing.specs.declared.long.TheConstants.{FORM_AND_NOTES}
 use Rattle.edr_drawing.specs.declared.template.TheConstants.{NONE, FIRST}
 use Rattle.edr_drawing.specs.declared.tables.TheConstants.{TABLE_END}
 use Rattle.edr_drawing.specs.Template.{digest_hex, either, filled, fixed, place_words, filled_if, seconds, of_profile}
@@ -112,8 +112,7 @@ cover_start events found count =
 -- after them: fields that are filled in by hand, and how to read the pages
 unfoldable pub cover_end : Origin → List ℕ
 cover_end origin =
-    fixed FORM.now
-    ++ fixed NOTES.now
+    fixed FORM_AND_NOTES.now
     ++ filled FIRST_FOOT.now (decimal origin.size ∷ digest_hex origin.digest ∷ VERSION.now ∷ [])
 
 -- ---- the first event of a pair

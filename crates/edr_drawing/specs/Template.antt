@@ -10,7 +10,7 @@ use Rattle.edr_drawing.specs.declared.template.Filling.{Filling}
 use Rattle.edr_drawing.specs.declared.template.Filling.TheVariants as filling
 use Rattle.edr_drawing.specs.declared.template.Shape.{Shape}
 use Rattle.edr_drawing.specs.declared.template.Shape.TheVariants as shape
-use Rattle.edr_drawing.specs.declared.template.TheConstants.{AFTER_FIRST, BEGINNING, DOT, FIELD, FIELD_CLASSES, FIRST, JOIN_OR_BEGIN, NUMBER, PATH_POINT, SECOND, SQUARE, SWITCH_WORDS, WORD, WORD_CLASSES}
+use Rattle.edr_drawing.specs.declared.template.TheConstants.{AFTER_FIRST, BEGINNING, DOT, FIELD, FIELD_CLASSES, FIRST, JOINED_OR_FIRST, NUMBER, SECOND, SQUARE, SWITCH_WORDS, WORD, WORD_CLASSES}
 
 -- ---- words
 
@@ -95,7 +95,7 @@ fixed text = text
 
 -- the bytes of a shape; a field and its word show what a switch is, or that there is nothing
 abbrev pub shape_bytes : Shape → List ℕ
-shape_bytes (shape.Joint joined x y) = filled PATH_POINT.now (either joined JOIN_OR_BEGIN.0.now JOIN_OR_BEGIN.1.now ∷ decimal x ∷ decimal y ∷ [])
+shape_bytes (shape.Joint joined x y) = filled (either joined JOINED_OR_FIRST.0.now JOINED_OR_FIRST.1.now) (decimal x ∷ decimal y ∷ [])
 shape_bytes (shape.Dot x y radius) = filled DOT.now (decimal x ∷ decimal y ∷ decimal radius ∷ [])
 shape_bytes (shape.Square x y) = filled SQUARE.now (decimal (x - 8) ∷ decimal (y - 8) ∷ [])
 shape_bytes (shape.Value x y v) = filled NUMBER.now (decimal x ∷ decimal y ∷ decimal v ∷ [])

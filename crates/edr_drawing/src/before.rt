@@ -321,18 +321,13 @@ fn draw_brake(out: &mut Vec<u8>, profile: Profile, slots: &[Option<bool>]) -> Dr
     draw_run(out, profile, first, count, BRAKE_BAND, shows)
 }
 
-// Draws the name of a switch, and what it is 1 s before time zero.
-fn draw_moment(
-    out: &mut Vec<u8>,
-    profile: Profile,
-    switch: (&[u8], u32),
-    shows: Option<bool>,
-) -> Drawn
-    requires { switch.1 ≤ 1_000 }
-    ensures { OnOk result (out.new.items ≡ out.old.items ++ switch_moment profile switch.entry.0.now switch.entry.1 shows) }
+// Draws the name of a switch, and what it is 1 s before time zero, which stands there across.
+fn draw_moment(out: &mut Vec<u8>, x: u32, switch: (&[u8], u32), shows: Option<bool>) -> Drawn
+    requires across { (400 ≤ x) × (x ≤ 30_000) }
+    requires up { switch.1 ≤ 1_000 }
+    ensures { OnOk result (out.new.items ≡ out.old.items ++ switch_moment x switch.entry.0.now switch.entry.1 shows) }
 {
     let (name, y) = switch;
-    let x = slot_x(profile, of_profile(profile, SECOND_SLOTS));
     let parts = [
         Number(x),
         Number(y),
@@ -364,7 +359,8 @@ pub fn draw_before(out: &mut Vec<u8>, number: u64, pre: &Pre) -> Drawn
     draw_lane(out, profile, &THROTTLE, &throttle[..pre.throttle().len()])?;
     put(out, BRAKE_NAME)?;
     draw_brake(out, profile, pre.brake())?;
-    draw_moment(out, profile, BELT, belt)?;
-    draw_moment(out, profile, LAMP, lamp)?;
+    let second = slot_x(profile, of_profile(profile, SECOND_SLOTS));
+    draw_moment(out, second, BELT, belt)?;
+    draw_moment(out, second, LAMP, lamp)?;
     put(out, BEFORE_END)
 }

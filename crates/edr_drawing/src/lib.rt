@@ -15,11 +15,11 @@ ghost use Rattle.edr_image.specs.Reports.{report_of};
 ghost use Rattle.edr_drawing.specs.Page.{page_bytes};
 
 use edr_image::{CycleReport, Found};
-use long::{BODY, HEAD, ON_EACH_SIDE, PAGE_END, STYLE};
+use long::{BODY, HEAD, PAGE_END, STYLE};
 use sheets::{events_of, put_cover_end, put_cover_start, put_sheets};
 use std::alloc::{AllocError as OutOfMemory, Global};
 use tables::put_run;
-use template::Filling::Beginning;
+use template::Filling::{Beginning, Text};
 use template::{fill, put};
 
 /// The version of the program that draws a page, as the file VERSION has it.
@@ -47,12 +47,9 @@ pub fn page(
     ensures { IfOk result (λ out. out.items ≡ page_bytes (map report_of run.now) found.now origin.now) }
 {
     let events = events_of(alloc, found)?;
-    let beginning = [Beginning(origin.digest)];
     let mut out = Vec::new(alloc);
-    fill(&mut out, HEAD, &beginning)?;
-    put(&mut out, STYLE)?;
-    fill(&mut out, ON_EACH_SIDE, &beginning)?;
-    put(&mut out, BODY)?;
+    let head = [Beginning(origin.digest), Text(STYLE), Text(BODY)];
+    fill(&mut out, HEAD, &head)?;
     put_cover_start(&mut out, &events, found, origin.count)?;
     put_run(&mut out, alloc, run, events.len() as u64)?;
     put_cover_end(&mut out, origin)?;

@@ -1,6 +1,6 @@
 //! The long texts of a page.
 
-/// The head of a page up to its style.
+/// The head of a page: its style, then the beginning of the report's digest, as each side of paper has it.
 pub const HEAD: &[u8] = br#"<!DOCTYPE html>
 <html lang="en">
 <head>
@@ -9,7 +9,7 @@ pub const HEAD: &[u8] = br#"<!DOCTYPE html>
 <meta name="viewport" content="width=device-width">
 <title>Event data recorder: retrieved events, report {0}</title>
 <style>
-"#;
+{1}{0}{2}"#;
 
 /// The style of a page.
 pub const STYLE: &[u8] = br#"@page{margin:9mm 12mm 12mm}
@@ -81,9 +81,6 @@ svg .n1{fill:#00547f;font-weight:700}svg .n2{fill:#a84300;font-weight:700}
 @page e16{@bottom-center{content:"Event 16"}}
 @page{@bottom-left{content:"Report "#;
 
-/// The beginning of the report's digest, as each side of paper has it.
-pub const ON_EACH_SIDE: &[u8] = b"{0}";
-
 /// What stands between the style and the first sheet.
 pub const BODY: &[u8] = br##""}}
 </style>
@@ -92,8 +89,16 @@ pub const BODY: &[u8] = br##""}}
 <svg width="0" height="0" style="position:absolute" aria-hidden="true"><defs><pattern id="hatch" width="14" height="14" patternUnits="userSpaceOnUse" patternTransform="rotate(45)"><rect width="14" height="14" fill="#f4f4f4"/><path d="M0 0V14" stroke="#bdbdbd" stroke-width="5"/></pattern></defs></svg>
 "##;
 
-/// How to read the pages.
-pub const NOTES: &[u8] = br#"<h2>How to read the pages</h2>
+/// The fields that are filled in by hand, and how to read the pages.
+pub const FORM_AND_NOTES: &[u8] = br#"<h2>To be filled in by hand</h2>
+<table class="form" aria-label="To be filled in by hand">
+<tbody>
+<tr><th scope="row">Vehicle, VIN</th><td></td><th scope="row">Case</th><td></td></tr>
+<tr><th scope="row">Date and place of the crash</th><td></td><th scope="row">Read out by, when</th><td></td></tr>
+<tr><th scope="row">Image, SHA-256</th><td colspan="3"></td></tr>
+</tbody>
+</table>
+<h2>How to read the pages</h2>
 <ul class="notes">
 <li>Marks are what was recorded. The lines between them only guide the eye: nothing is recorded between two marks.</li>
 <li>A hatched field and the word "none" are absent: they aren't zero. Where a value is 0, the mark stands at 0. An axis without any sample has no marks, but the words "no sample". One that lacks some has a dotted curve with hollow marks, and the legend says how many.</li>
@@ -108,17 +113,6 @@ pub const NOTES: &[u8] = br#"<h2>How to read the pages</h2>
 <li>Accuracy is that of the sensors, and nothing is claimed of it.</li>
 <li>Nothing in a report shows who wrote it. Bytes that somebody changed to those of another record are shown as that record; what speaks against it is who kept the image, and its sum.</li>
 </ul>
-"#;
-
-/// The fields that are filled in by hand.
-pub const FORM: &[u8] = br#"<h2>To be filled in by hand</h2>
-<table class="form" aria-label="To be filled in by hand">
-<tbody>
-<tr><th scope="row">Vehicle, VIN</th><td></td><th scope="row">Case</th><td></td></tr>
-<tr><th scope="row">Date and place of the crash</th><td></td><th scope="row">Read out by, when</th><td></td></tr>
-<tr><th scope="row">Image, SHA-256</th><td colspan="3"></td></tr>
-</tbody>
-</table>
 "#;
 
 pub const PAGE_END: &[u8] = b"</body>\n</html>\n";

@@ -7,7 +7,7 @@ ghost use Rattle.edr_drawing.specs.Template.{filling_bytes};
 
 use crate::after::draw_after;
 use crate::before::draw_before;
-use crate::long::{FORM, NOTES};
+use crate::long::FORM_AND_NOTES;
 use crate::scales::{AXIS_NAMES, CarAxis, greatest, missing_of, of_axis};
 use crate::tables::{TABLE_END, put_by_time, put_elements, put_points_table};
 use crate::template::Filling::{Count, Digest, Number, Seconds, Text};
@@ -189,8 +189,7 @@ pub fn put_cover_start(
 pub fn put_cover_end(out: &mut Vec<u8>, origin: &Origin) -> Drawn
     ensures { OnOk result (out.new.items ≡ out.old.items ++ cover_end origin.now) }
 {
-    put(out, FORM)?;
-    put(out, NOTES)?;
+    put(out, FORM_AND_NOTES)?;
     let foot = [Number(origin.size), Digest(origin.digest), Text(VERSION)];
     fill(out, FIRST_FOOT, &foot)
 }

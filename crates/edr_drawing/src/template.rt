@@ -181,11 +181,10 @@ pub fn fill(out: &mut Vec<u8>, template: &[u8], fillings: &[Filling<'_>]) -> Dra
 pub fn fill_if(out: &mut Vec<u8>, is_so: bool, template: &[u8], fillings: &[Filling<'_>]) -> Drawn
     ensures { OnOk result (out.new.items ≡ out.old.items ++ filled_if is_so template.now (map filling_bytes fillings.now)) }
 {
-    if is_so {
-        fill(out, template, fillings)
-    } else {
-        Ok(())
+    if !is_so {
+        return Ok(());
     }
+    fill(out, template, fillings)
 }
 
 /// Appends a text with no holes.
@@ -211,10 +210,8 @@ pub const PATH: &[u8] = br#"<path class="s{0}" d=""#;
 
 pub const PATH_END: &[u8] = b"\"/>\n";
 
-/// A point of a path, which begins there or is joined to the point before it.
-pub const PATH_POINT: &[u8] = b"{0}{1} {2}";
-
-pub const JOIN_OR_BEGIN: (&[u8], &[u8]) = (b"L", b"M");
+/// A point of a path, which is joined to the point before it, and one at which a path begins.
+pub const JOINED_OR_FIRST: (&[u8], &[u8]) = (b"L{0} {1}", b"M{0} {1}");
 
 pub const DOT: &[u8] = br#"<circle cx="{0}" cy="{1}" r="{2}" class="p1"/>
 "#;
@@ -255,8 +252,8 @@ fn put_shape(out: &mut Vec<u8>, shape: Shape) -> Drawn
 {
     match shape {
         Shape::Joint(is_joined, x, y) => {
-            let join = Text(either(is_joined, JOIN_OR_BEGIN));
-            fill(out, PATH_POINT, &[join, Number(x), Number(y)])
+            let point = either(is_joined, JOINED_OR_FIRST);
+            fill(out, point, &[Number(x), Number(y)])
         }
         Shape::Dot(x, y, radius) => fill(out, DOT, &[Number(x), Number(y), Number(radius)]),
         Shape::Square(x, y) => {
