@@ -284,13 +284,6 @@ fn draw_times(out: &mut Vec<u8>, profile: Profile) -> Drawn
     Ok(())
 }
 
-/// A value of throttle as wide as one of speed.
-pub fn wide(slot: Option<u8>) -> Option<u16>
-    ensures { result ≡ slot }
-{
-    slot.map(u16::from)
-}
-
 // The same slots as wider numbers, and absent ones after them.
 fn wide_slots(slots: &[Option<u8>]) -> [Option<u16>; LONG_SLOTS]
     requires { length slots.now ≤ LONG_SLOTS }
@@ -298,7 +291,7 @@ fn wide_slots(slots: &[Option<u8>]) -> [Option<u16>; LONG_SLOTS]
 {
     let mut wider = [None; LONG_SLOTS];
     for (k, slot) in slots.iter().enumerate() {
-        wider[k] = wide(*slot);
+        wider[k] = slot.map(u16::from);
     }
     wider
 }

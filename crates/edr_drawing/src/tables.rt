@@ -5,7 +5,7 @@ ghost use Rattle.edr_image.specs.Reports.{report_of};
 ghost use Rattle.edr_drawing.specs.Tables.{change_row, elements_bytes, elements_table, is_one_of, line_row, points_table, row, row_of, rows_bytes, run_table, taken_in, taken_of, block, block_slots, blocks_in, by_time, mph, number_word, slot_at, slot_row, slot_tenths};
 ghost use Rattle.edr_drawing.specs.Template.{filling_bytes};
 
-use crate::before::{SPANS, wide};
+use crate::before::SPANS;
 use crate::scales::{AXIS_NAMES, CarAxis, NO_SAMPLE, is_silent, of_axis, points_of};
 use crate::sheets::PROFILES;
 use crate::template::Filling::{Before, Change, Count, Number, Text};
@@ -312,7 +312,7 @@ fn put_slot(out: &mut Vec<u8>, pre: &Pre, k: u32) -> Drawn
     ensures { OnOk result (out.new.items ≡ out.old.items ++ slot_row pre.now k) }
 {
     let speed = slot_at(pre.speed(), k);
-    let throttle = wide(slot_at(pre.throttle(), k));
+    let throttle = slot_at(pre.throttle(), k).map(u16::from);
     let brake = Text(of_switch(slot_at(pre.brake(), k), SWITCH_WORDS));
     let time = Before(u64::from(slot_tenths(pre.profile(), k)));
     let (kmh, miles) = (number_word(speed), number_word(mph(speed)));
