@@ -1,11 +1,9 @@
 -- The events that may be the first one of a pair.
 use Rattle.std.proofs.Common.{◌≡◌, refl, ℕ, inl, inr, arith, sym, subst, ap, Bool, true, false, if◌then◌else◌, List, [], ◌∷◌, ◌++◌, Contains}
 use Rattle.std.proofs.lemmas.List.Elements.{Contains-append_right}
-use Rattle.edr_record.specs.declared.Key.{Key}
-use Rattle.edr_record.specs.declared.Record.{Record}
+use Rattle.edr_record.specs.{declared.Key.Key, declared.Record.Record}
 use Rattle.edr_image.specs.declared.Found.{Found}
-use Rattle.edr_drawing.specs.Sheets.{NumberedRecord, events_of, firsts, is_first_of}
-use Rattle.edr_drawing.specs.Laws.{AreFirsts, MayBeFirst}
+use Rattle.edr_drawing.specs.{Sheets.{NumberedRecord, events_of, firsts, is_first_of}, Laws.{AreFirsts, MayBeFirst}}
 use Rattle.edr_drawing.proofs.PartLemmas.{contains_cases, in_one}
 
 -- ---- what is named may be it

@@ -3,8 +3,7 @@ use Rattle.std.proofs.Common.{◌≡◌, ap, ℕ, List, ◌+◌, ◌++◌, add-o
 use Rattle.std.specs.List.{enumerate_from}
 use Rattle.edr_image.specs.declared.Found.{Found}
 use Rattle.edr_report.specs.Report.{found_records}
-use Rattle.edr_drawing.specs.Scales.{flat_map_below}
-use Rattle.edr_drawing.specs.Sheets.{NumberedRecord}
+use Rattle.edr_drawing.specs.{Scales.flat_map_below, Sheets.NumberedRecord}
 
 -- one more number gives its part after those before it
 pub counted_more : (f : ℕ → List ℕ) (n : ℕ) → flat_map_below f (n + 1) ≡ flat_map_below f n ++ f n

@@ -1,23 +1,15 @@
 -- What stands on a page in one piece.
 use Rattle.std.proofs.Common.{◌≡◌, ◌∙◌, sym, ap, subst, ℕ, zero, suc, ◌+◌, ◌*◌, ◌/◌, ◌%◌, ◌<◌, ◌⊎◌, inl, inr, arith, refl, List, [], ◌∷◌, ◌++◌, Contains, length, flat_map, append_assoc, append-nil}
 use Rattle.std.specs.List.{enumerate_from}
-use Rattle.std.proofs.lemmas.Bool.{cases_lt}
-use Rattle.std.proofs.lemmas.List.Elements.{Contains-append_cases}
-use Rattle.edr_record.specs.declared.Profile.{Profile}
-use Rattle.edr_record.specs.declared.Profile.TheVariants.{Short, Long}
-use Rattle.edr_record.specs.declared.Record.{Record}
-use Rattle.edr_record.specs.Bounds.{slots_in}
-use Rattle.edr_record.specs.Parts.{PrePart}
-use Rattle.edr_image.specs.declared.Found.{Found}
-use Rattle.edr_image.specs.Reports.{Report}
-use Rattle.edr_report.specs.Lines.{Line}
-use Rattle.edr_report.specs.Report.{event_lines, events_lines, found_records, run_lines}
-use Rattle.edr_drawing.specs.declared.Origin.{Origin}
-use Rattle.edr_drawing.specs.Sheets.{NumberedRecord, events_of, place_fact, sheet}
+use Rattle.std.proofs.{lemmas.Bool.cases_lt, lemmas.List.Elements.Contains-append_cases}
+use Rattle.edr_record.specs.{declared.Profile.Profile, declared.Profile.TheVariants.{Short, Long}}
+use Rattle.edr_record.specs.{declared.Record.Record, Bounds.slots_in, Parts.PrePart}
+use Rattle.edr_image.specs.{declared.Found.Found, Reports.Report}
+use Rattle.edr_report.specs.{Lines.Line, Report.{event_lines, events_lines, found_records, run_lines}}
+use Rattle.edr_drawing.specs.{declared.Origin.Origin, Sheets.{NumberedRecord, events_of, place_fact, sheet}}
 use Rattle.edr_drawing.specs.Scales.{flat_map_below}
 use Rattle.edr_drawing.specs.Tables.{row, row_of, line_row, elements_table, run_table, block, block_slots, blocks, blocks_in, by_time, slot_row}
-use Rattle.edr_drawing.specs.Page.{page_bytes}
-use Rattle.edr_drawing.specs.Laws.{HasPlace, HasSlotRows, IsInOnePiece, OfEvents, shown_row}
+use Rattle.edr_drawing.specs.{Page.page_bytes, Laws.{HasPlace, HasSlotRows, IsInOnePiece, OfEvents, shown_row}}
 
 -- the bytes stand in the others, in one piece
 pub record Piece (part whole : List ℕ) : Type 0 where

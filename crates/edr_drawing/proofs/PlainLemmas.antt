@@ -1,17 +1,12 @@
 -- Texts whose bytes are all below 128, and the templates of a page, which are such texts.
 use Rattle.std.proofs.Common.{arith, ◌≡◌, ℕ, zero, suc, ◌-◌, ◌/◌, ◌%◌, ◌<◌, ltb-true, ℤ, pos, negsuc, Bool, true, false, if◌then◌else◌, nat_lt, nat_eq, Option, Some, None, List, [], ◌∷◌, ◌++◌, flat_map, get_or, take, decimal, All, Bor}
-use Rattle.std.specs.List.{list_all}
-use Rattle.std.specs.Fmt.{signed_decimal, digits, digits_onto, digit_glyph}
+use Rattle.std.specs.{List.list_all, Fmt.{signed_decimal, digits, digits_onto, digit_glyph}}
 use Rattle.std.proofs.lemmas.List.Elements.{All-nil, All-cons, All-append, All-head, All-tail, All-take}
 use Rattle.std.proofs.lemmas.Bool.{and_parts}
-use Rattle.edr_record.specs.declared.Place.{Place}
-use Rattle.edr_record.specs.declared.Place.TheVariants.{First, Second}
-use Rattle.edr_record.specs.declared.Profile.{Profile}
-use Rattle.edr_record.specs.declared.Profile.TheVariants.{Short, Long}
-use Rattle.edr_drawing.specs.declared.template.TheConstants.{BEGINNING}
-use Rattle.edr_drawing.specs.declared.scales.CarAxis.{CarAxis}
-use Rattle.edr_drawing.specs.declared.scales.CarAxis.TheVariants.{Along, Across}
-use Rattle.edr_drawing.specs.Scales.{of_axis}
+use Rattle.edr_record.specs.{declared.Place.Place, declared.Place.TheVariants.{First, Second}}
+use Rattle.edr_record.specs.{declared.Profile.Profile, declared.Profile.TheVariants.{Short, Long}}
+use Rattle.edr_drawing.specs.{declared.template.TheConstants.BEGINNING, declared.scales.CarAxis.CarAxis}
+use Rattle.edr_drawing.specs.{declared.scales.CarAxis.TheVariants.{Along, Across}, Scales.of_axis}
 use Rattle.edr_drawing.specs.Template.{byte_bytes, digest_hex, filled, filled_from, fixed, of_profile, of_switch, place_words}
 use Rattle.edr_drawing.specs.Scales.{flat_map_below}
 

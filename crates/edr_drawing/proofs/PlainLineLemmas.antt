@@ -3,21 +3,16 @@ use Rattle.std.proofs.Common.{arith, ◌≡◌, refl, ℕ, Bool, true, false, Op
 use Rattle.std.specs.List.{enumerate_from, list_all}
 use Rattle.std.proofs.lemmas.Bool.{and_parts}
 use Rattle.std.specs.Option.{option_map_or}
-use Rattle.edr_record.specs.declared.Place.{Place}
-use Rattle.edr_record.specs.declared.Place.TheVariants.{First, Second}
+use Rattle.edr_record.specs.{declared.Place.Place, declared.Place.TheVariants.{First, Second}}
 use Rattle.edr_record.specs.declared.Profile.{Profile}
 use Rattle.edr_record.specs.declared.Profile.TheVariants as profile
-use Rattle.edr_record.specs.declared.Record.{Record}
-use Rattle.edr_record.specs.Parts.{PrePart, CrashPart}
-use Rattle.edr_image.specs.declared.Ack.{Ack}
-use Rattle.edr_image.specs.declared.Kind.{Kind}
+use Rattle.edr_record.specs.{declared.Record.Record, Parts.{PrePart, CrashPart}}
+use Rattle.edr_image.specs.{declared.Ack.Ack, declared.Kind.Kind}
 use Rattle.edr_image.specs.declared.Kind.TheVariants as kind
-use Rattle.edr_image.specs.declared.Applied.{Applied}
-use Rattle.edr_image.specs.declared.Applied.TheVariants.{NotKept}
+use Rattle.edr_image.specs.{declared.Applied.Applied, declared.Applied.TheVariants.NotKept}
 use Rattle.edr_image.specs.Reports.{Report, StartStopped, Ran}
 use Rattle.edr_report.specs.Words.{kind_word, applied_words, stop_words, none_word, yes_no, profile_word, number_or_none, switch_or_none, firing_words, events_in_crash, time_between, spaced_words}
-use Rattle.edr_report.specs.Lines.{Line}
-use Rattle.edr_report.specs.declared.event_lines.EventLine.{EventLine}
+use Rattle.edr_report.specs.{Lines.Line, declared.event_lines.EventLine.EventLine}
 use Rattle.edr_report.specs.declared.event_lines.EventLine.TheVariants as event
 use Rattle.edr_report.specs.declared.event_lines.PreLine.{PreLine}
 use Rattle.edr_report.specs.declared.event_lines.PreLine.TheVariants as pre

@@ -2,32 +2,22 @@
 use Rattle.std.proofs.Common.{ℕ, nat_lt, ◌≡◌, ◌+◌, ◌*◌, ℤ, Bool, true, false, Option, Some, None, List, [], ◌∷◌, refl, ◌<◌, All}
 use Rattle.std.specs.List.{list_all}
 use Rattle.std.proofs.lemmas.Bool.{and_parts}
-use Rattle.edr_record.specs.Parts.{PrePart, CrashPart}
-use Rattle.edr_record.specs.declared.Profile.{Profile}
-use Rattle.edr_drawing.specs.declared.after.AtPoint.{AtPoint}
-use Rattle.edr_drawing.specs.declared.after.ChartRow.{ChartRow}
-use Rattle.edr_drawing.specs.declared.after.ChartRow.TheVariants.{Greatest}
-use Rattle.edr_drawing.specs.declared.scales.Scale.{Scale}
-use Rattle.edr_drawing.specs.declared.before.ChartLane.{ChartLane}
-use Rattle.edr_drawing.specs.declared.template.Shape.{Shape}
+use Rattle.edr_record.specs.{Parts.{PrePart, CrashPart}, declared.Profile.Profile}
+use Rattle.edr_drawing.specs.{declared.after.AtPoint.AtPoint, declared.after.ChartRow.ChartRow}
+use Rattle.edr_drawing.specs.{declared.after.ChartRow.TheVariants.Greatest, declared.scales.Scale.Scale}
+use Rattle.edr_drawing.specs.{declared.before.ChartLane.ChartLane, declared.template.Shape.Shape}
 use Rattle.edr_drawing.specs.declared.template.Shape.TheVariants as shape
 use Rattle.edr_drawing.specs.declared.template.TheConstants.{NONE}
 use Rattle.edr_record.specs.declared.TheConstants.{POINT_STEP}
-use Rattle.edr_drawing.specs.Template.{shape_bytes, shapes_bytes}
-use Rattle.edr_drawing.specs.Scales.{change_y, slot_x, time_x}
+use Rattle.edr_drawing.specs.{Template.{shape_bytes, shapes_bytes}, Scales.{change_y, slot_x, time_x}}
 use Rattle.edr_drawing.specs.Before.{before_chart, brake_runs, cells, drawn_lane, lane_y, marked, points, run_shapes, time_lines}
 use Rattle.edr_drawing.specs.After.{axis_shapes, changes_chart, curve, drawn_curve, end_line, level, levels, maximum, shape_at, time_lines as later_lines, after_chart, chart_row, flag_row, row_time, chart_rows, row_words, time_words}
 use Rattle.edr_drawing.proofs.PlainLemmas.{Plain, all_low, plain_nil, plain_append, plain_if, plain_fixed, plain_flat_map, plains, plain_beginning, plain_decimal, plain_digest}
-use Rattle.edr_record.specs.declared.Key.{Key}
-use Rattle.edr_record.specs.declared.Place.{Place}
-use Rattle.edr_record.specs.declared.Place.TheVariants.{First, Second}
+use Rattle.edr_record.specs.{declared.Key.Key, declared.Place.Place, declared.Place.TheVariants.{First, Second}}
 use Rattle.edr_record.specs.declared.Record.{Record}
-use Rattle.edr_image.specs.declared.BankView.{BankView}
-use Rattle.edr_image.specs.declared.BankView.TheVariants.{Damaged}
-use Rattle.edr_image.specs.declared.Found.{Found}
+use Rattle.edr_image.specs.{declared.BankView.BankView, declared.BankView.TheVariants.Damaged, declared.Found.Found}
 use Rattle.edr_image.specs.Reports.{Report}
-use Rattle.edr_drawing.specs.declared.scales.CarAxis.{CarAxis}
-use Rattle.edr_drawing.specs.declared.Origin.{Origin}
+use Rattle.edr_drawing.specs.{declared.scales.CarAxis.CarAxis, declared.Origin.Origin}
 use Rattle.edr_drawing.specs.Sheets.{NumberedRecord, cover_end, cover_start, damaged_item, damaged_list, event_row, events_table, greatest_or_none, pre_reasons, crash_reasons, reasons, firsts_words, place_fact, place_told, sheet}
 use Rattle.edr_drawing.specs.Tables.{points_table, elements_table, run_table, block, by_time, number_word, slot_row}
 use Rattle.edr_drawing.specs.Page.{page_bytes}

@@ -3,16 +3,14 @@ use Rattle.std.proofs.Common.{arith, ◌≡◌, ℕ, ◌+◌, ◌*◌, ◌/◌, 
 use Rattle.std.proofs.Math.Nat.{mul-le-mul_right, div-le_of_le-mul, div-mul-le_self}
 use Rattle.std.proofs.lemmas.List.Elements.{All-nil, All-cons, All-head, All-tail, All-weaker}
 use Rattle.edr_record.specs.Parts.{CrashPart}
-use Rattle.edr_drawing.specs.declared.scales.Scale.{Scale}
-use Rattle.edr_drawing.specs.declared.scales.Direction.{Direction}
+use Rattle.edr_drawing.specs.{declared.scales.Scale.Scale, declared.scales.Direction.Direction}
 use Rattle.edr_drawing.specs.declared.scales.Direction.TheVariants.{Up, Down}
 use Rattle.edr_drawing.specs.Scales.{reach_of, below_top, furthest, least_step, reach, step_of, part_of, scale_of, change_y}
 use Rattle.edr_drawing.specs.declared.scales.TheConstants.{CHANGE_LINES, CHANGE_STEPS, LAST_CHANGE_STEP}
 use Rattle.edr_drawing.specs.Laws.{IsInPlot}
 use Rattle.std.proofs.lemmas.Nat.{le-div}
 use Rattle.std.specs.Int.{next_multiple_of}
-use Rattle.edr_drawing.specs.declared.before.ChartLane.{ChartLane}
-use Rattle.edr_drawing.specs.Before.{lane_y}
+use Rattle.edr_drawing.specs.{declared.before.ChartLane.ChartLane, Before.lane_y}
 
 -- a quotient grows with its dividend
 quotient_grows : (a b k : ℕ) → 1 ≤ k → a ≤ b → a / k ≤ b / k

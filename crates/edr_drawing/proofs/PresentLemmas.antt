@@ -1,11 +1,8 @@
 -- What a lane shows of the slots that are there.
 use Rattle.std.proofs.Common.{arith, ◌≡◌, ◌∙◌, refl, sym, ap, subst, ℕ, ◌+◌, Bool, true, false, if◌then◌else◌, nat_lt, append-nil, append_assoc, Option, Some, None, List, [], ◌∷◌, ◌++◌, map, filter, flat_map}
 use Rattle.std.proofs.lemmas.Grind.{flat_map-append}
-use Rattle.edr_record.specs.declared.Profile.{Profile}
-use Rattle.edr_record.specs.declared.Profile.TheVariants.{Short, Long}
-use Rattle.edr_drawing.specs.declared.before.ChartLane.{ChartLane}
-use Rattle.edr_drawing.specs.declared.template.Shape.{Shape}
-use Rattle.edr_drawing.specs.declared.template.Shape.TheVariants as shape
+use Rattle.edr_record.specs.{declared.Profile.Profile, declared.Profile.TheVariants.{Short, Long}}
+use Rattle.edr_drawing.specs.{declared.before.ChartLane.ChartLane, declared.template.Shape.Shape}
 use Rattle.edr_drawing.specs.declared.before.TheConstants.{LONGEST_RUNS}
 use Rattle.edr_drawing.specs.Template.{of_profile, shape_bytes, shapes_bytes}
 use Rattle.edr_drawing.specs.Before.{cells, mark, marked, point, points, run_bytes, run_shapes}

@@ -1,10 +1,8 @@
 -- Templates of a page, what goes into their holes, and the shapes of a chart, each from whole numbers alone.
 use Rattle.std.specs.Prelude.{ℕ, ◌+◌, ◌-◌, ◌/◌, ◌%◌, Bool, true, false, if◌then◌else◌, nat_eq, nat_lt, Option, Some, None, List, [], ◌∷◌, ◌++◌, flat_map, get_or, take, codes, decimal}
 use Rattle.std.specs.Fmt.{signed_decimal}
-use Rattle.edr_record.specs.declared.Place.{Place}
-use Rattle.edr_record.specs.declared.Place.TheVariants.{First, Second}
-use Rattle.edr_record.specs.declared.Profile.{Profile}
-use Rattle.edr_record.specs.declared.Profile.TheVariants.{Short, Long}
+use Rattle.edr_record.specs.{declared.Place.Place, declared.Place.TheVariants.{First, Second}}
+use Rattle.edr_record.specs.{declared.Profile.Profile, declared.Profile.TheVariants.{Short, Long}}
 use Rattle.edr_report.specs.Words.{extreme_words, milliseconds, tenths_of}
 use Rattle.edr_drawing.specs.declared.template.Filling.{Filling}
 use Rattle.edr_drawing.specs.declared.template.Filling.TheVariants as filling
