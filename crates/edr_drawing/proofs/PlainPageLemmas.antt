@@ -3,7 +3,7 @@ use Rattle.std.proofs.Common.{ℕ, nat_lt, ◌≡◌, ◌+◌, ◌*◌, ℤ, Boo
 use Rattle.std.specs.List.{list_all}
 use Rattle.std.proofs.lemmas.Bool.{and_parts}
 use Rattle.edr_record.specs.{Parts.{PrePart, CrashPart}, declared.Profile.Profile}
-use Rattle.edr_drawing.specs.{declared.after.AtPoint.AtPoint, declared.after.ChartRow.ChartRow}
+use Rattle.edr_drawing.specs.{declared.scales.CarAxis.CarAxis, declared.after.ChartRow.ChartRow}
 use Rattle.edr_drawing.specs.{declared.after.ChartRow.TheVariants.Greatest, declared.scales.Scale.Scale}
 use Rattle.edr_drawing.specs.{declared.before.ChartLane.ChartLane, declared.template.Shape.Shape}
 use Rattle.edr_drawing.specs.declared.template.Shape.TheVariants as shape
@@ -17,7 +17,7 @@ use Rattle.edr_record.specs.{declared.Key.Key, declared.Place.Place, declared.Pl
 use Rattle.edr_record.specs.declared.Record.{Record}
 use Rattle.edr_image.specs.{declared.BankView.BankView, declared.BankView.TheVariants.Damaged, declared.Found.Found}
 use Rattle.edr_image.specs.Reports.{Report}
-use Rattle.edr_drawing.specs.{declared.scales.CarAxis.CarAxis, declared.Origin.Origin}
+use Rattle.edr_drawing.specs.declared.Origin.{Origin}
 use Rattle.edr_drawing.specs.Sheets.{NumberedRecord, cover_end, cover_start, damaged_item, damaged_list, event_row, events_table, greatest_or_none, pre_reasons, crash_reasons, reasons, firsts_words, place_fact, place_told, sheet}
 use Rattle.edr_drawing.specs.Tables.{points_table, elements_table, run_table, block, by_time, number_word, slot_row}
 use Rattle.edr_drawing.specs.Page.{page_bytes}
@@ -56,9 +56,9 @@ plain_before_chart n p = search (plain_points, plain_cells, plain_brake_runs, pl
 
 -- ---- the chart after time zero
 
-plain_axis_shapes : (s : Scale) (what : AtPoint) (i : ℕ) (vs : List ℤ) → Plain (axis_shapes s what i vs)
-plain_axis_shapes s what i [] = plain_nil
-plain_axis_shapes s what i (v ∷ vs) = plain_append _ _ (plain_shapes (shape_at what (nat_lt 0 i) (time_x s (POINT_STEP * i)) (change_y s v) ∷ [])) (plain_axis_shapes s what (i + 1) vs)
+plain_axis_shapes : (s : Scale) (mark : Option CarAxis) (i : ℕ) (vs : List ℤ) → Plain (axis_shapes s mark i vs)
+plain_axis_shapes s mark i [] = plain_nil
+plain_axis_shapes s mark i (v ∷ vs) = plain_append _ _ (plain_shapes (shape_at mark (nat_lt 0 i) (time_x s (POINT_STEP * i)) (change_y s v) ∷ [])) (plain_axis_shapes s mark (i + 1) vs)
 
 plain_time_words : (at : Option ℕ) (none : List ℕ) → Plain none → Plain (time_words at none)
 plain_time_words (Some t) none h = search plains depth 20

@@ -4,7 +4,7 @@ use Rattle.std.specs.{Fmt.signed_decimal, Ordering.int_eq}
 use Rattle.edr_record.specs.{declared.TheConstants.POINT_STEP, declared.Extreme.Extreme, Parts.CrashPart, Bounds.window_from_end}
 use Rattle.edr_report.specs.Words.{milliseconds}
 use Rattle.edr_drawing.specs.declared.after.TheConstants.{CENTRED_OR_ENDING, DIAMOND, DIAMOND_UP, END_LINE, FAR_RIGHT, GAPPED, GAPS_Y, LEGEND, LEGEND_GAPS, LEVEL, LEVEL_CLASSES, MAXIMUM_NUMBER, NEXT_LINE, NOT_RECORDED, NUMBER_FROM, PAST_WINDOW, ROOM_NOT_RECORDED, SILENT_CURVE, SILENT_FROM, TIME_LINES, TIMES_APART, ZERO_LINES, AFTER_HEAD, BESIDE_CLASSES, BESIDE_FLAG, CHART_END, EMPTY_ROW, FIRST_RESTRAINT, FLAG_DOWN, FLAG_FAR_RIGHT, NAME_CLASSES, ROW, ROWS, ROWS_Y, ROW_HEIGHT, RULE, WITHOUT_PART, WORDS_CLASSES, WORDS_DOWN}
-use Rattle.edr_drawing.specs.declared.after.{AtPoint.AtPoint, AtPoint.TheVariants.{Joint, Dot, Square}, ChartRow.ChartRow, ChartRow.TheVariants.{End, Greatest, Resultant, Fired}}
+use Rattle.edr_drawing.specs.declared.after.{ChartRow.ChartRow, ChartRow.TheVariants.{End, Greatest, Resultant, Fired}}
 use Rattle.edr_drawing.specs.declared.scales.{CarAxis.CarAxis, CarAxis.TheVariants.{Along, Across}, Scale.Scale, TheConstants.{AXIS_DIGITS, AXIS_NAMES, BELOW_TOP, HEIGHT, NO_SAMPLE, RIGHT}}
 use Rattle.edr_drawing.specs.declared.template.{Shape.Shape, TheConstants.{PATH, PATH_END, NONE, RADII}}
 use Rattle.edr_drawing.specs.declared.template.Shape.TheVariants as shape
@@ -49,16 +49,16 @@ end_line end past =
 -- ---- the curves
 
 -- a joint of its path at each point of an axis, or its mark
-abbrev pub shape_at : AtPoint → Bool → ℕ → ℕ → Shape
-shape_at Joint joined x y = shape.Joint joined x y
-shape_at Dot joined x y = shape.Dot x y RADII.0
-shape_at Square joined x y = shape.Square x y
+abbrev pub shape_at : Option CarAxis → Bool → ℕ → ℕ → Shape
+shape_at None joined x y = shape.Joint joined x y
+shape_at (Some Along) joined x y = shape.Dot x y RADII.0
+shape_at (Some Across) joined x y = shape.Square x y
 
 -- these at the points of an axis, the first of which is that of i times 10 ms
-abbrev pub axis_shapes : Scale → AtPoint → ℕ → List ℤ → List ℕ
-axis_shapes s what i [] = []
-axis_shapes s what i (v ∷ vs) =
-    shapes_bytes (shape_at what (nat_lt 0 i) (time_x s (POINT_STEP * i)) (change_y s v) ∷ []) ++ axis_shapes s what (i + 1) vs
+abbrev pub axis_shapes : Scale → Option CarAxis → ℕ → List ℤ → List ℕ
+axis_shapes s mark i [] = []
+axis_shapes s mark i (v ∷ vs) =
+    shapes_bytes (shape_at mark (nat_lt 0 i) (time_x s (POINT_STEP * i)) (change_y s v) ∷ []) ++ axis_shapes s mark (i + 1) vs
 
 -- the digit that ends the classes of an axis
 abbrev pub digit : CarAxis → List ℕ
@@ -69,9 +69,9 @@ unfoldable pub drawn_curve : Scale → CrashPart → CarAxis → List ℕ
 drawn_curve s c a =
     filled_if (nat_lt 0 (missing_of c a)) GAPPED.0.now []
     ++ filled PATH.now (digit a ∷ [])
-    ++ axis_shapes s Joint 0 (points_of c a)
+    ++ axis_shapes s None 0 (points_of c a)
     ++ fixed PATH_END.now
-    ++ axis_shapes s (of_axis a Dot Square) 0 (points_of c a)
+    ++ axis_shapes s (Some a) 0 (points_of c a)
     ++ filled_if (nat_lt 0 (missing_of c a)) GAPPED.1.now []
 
 -- where words stand for an axis: so far below a place for that along, and so far above it for that across

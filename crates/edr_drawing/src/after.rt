@@ -174,33 +174,26 @@ fn draw_legend_gaps(out: &mut Vec<u8>, crash: &Crash, axis: CarAxis) -> Drawn
     fill_if(out, 0 < missing, LEGEND_GAPS, &parts)
 }
 
-/// What stands at each point of an axis: a joint of its path, or its mark.
-#[derive(Clone, Copy)]
-pub enum AtPoint {
-    Joint,
-    Dot,
-    Square,
-}
-
-fn shape_at(what: AtPoint, is_joined: bool, x: u32, y: u32) -> Shape
-    ensures { result ≡ shape_at what is_joined x y }
+// The mark of this axis at a point, or else a joint of a path.
+fn shape_at(mark: Option<CarAxis>, is_joined: bool, x: u32, y: u32) -> Shape
+    ensures { result ≡ shape_at mark is_joined x y }
 {
-    match what {
-        AtPoint::Joint => Shape::Joint(is_joined, x, y),
-        AtPoint::Dot => Shape::Dot(x, y, RADII.0),
-        AtPoint::Square => Shape::Square(x, y),
+    match mark {
+        None => Shape::Joint(is_joined, x, y),
+        Some(CarAxis::Along) => Shape::Dot(x, y, RADII.0),
+        Some(CarAxis::Across) => Shape::Square(x, y),
     }
 }
 
-// Draws this at each point of an axis, one at each 10 ms.
-fn draw_points(out: &mut Vec<u8>, scale: &Scale, what: AtPoint, points: &[i16]) -> Drawn
+// Draws these marks or joints at the points of an axis, one at each 10 ms.
+fn draw_points(out: &mut Vec<u8>, scale: &Scale, mark: Option<CarAxis>, points: &[i16]) -> Drawn
     requires scale { IsScale scale.now }
     requires count { length points.now ≤ POINTS }
-    ensures { OnOk result (out.new.items ≡ out.old.items ++ axis_shapes scale.now what 0 points.now) }
+    ensures { OnOk result (out.new.items ≡ out.old.items ++ axis_shapes scale.now mark 0 points.now) }
 {
     for i in 0..points.len() {
         let x = scale.x(POINT_STEP * i as u16);
-        draw(out, &[shape_at(what, i > 0, x, scale.y(points[i]))])?;
+        draw(out, &[shape_at(mark, i > 0, x, scale.y(points[i]))])?;
     }
     Ok(())
 }
@@ -219,13 +212,12 @@ fn draw_curve(out: &mut Vec<u8>, scale: &Scale, crash: &Crash, axis: CarAxis) ->
         return fill(out, SILENT_CURVE, &[y, digit, name, Text(NO_SAMPLE)]);
     }
     let points = points_of(crash, axis);
-    let mark = of_axis(axis, (AtPoint::Dot, AtPoint::Square));
     let is_gapped = 0 < missing_of(crash, axis);
     fill_if(out, is_gapped, GAPPED.0, &[])?;
     fill(out, PATH, &[digit])?;
-    draw_points(out, scale, AtPoint::Joint, points)?;
+    draw_points(out, scale, None, points)?;
     put(out, PATH_END)?;
-    draw_points(out, scale, mark, points)?;
+    draw_points(out, scale, Some(axis), points)?;
     fill_if(out, is_gapped, GAPPED.1, &[])
 }
 

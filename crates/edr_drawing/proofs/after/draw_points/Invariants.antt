@@ -5,4 +5,4 @@ use Rattle.edr_drawing.proofs.after.draw_points.Given as goal
 -- what is left gives the rest
 abbrev pub invariant-loop-i : goal.invariant-loop-i
 invariant-loop-i l =
-    l.out.items ++ axis_shapes l.scale l.what l.i (drop l.i l.points) ≡ l.initial.out.items ++ axis_shapes l.scale l.what 0 l.points
+    l.out.items ++ axis_shapes l.scale l.mark l.i (drop l.i l.points) ≡ l.initial.out.items ++ axis_shapes l.scale l.mark 0 l.points
