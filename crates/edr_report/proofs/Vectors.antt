@@ -1,20 +1,15 @@
 -- Reports and lines that are computed.
 use Rattle.std.proofs.Common.{◌≡◌, refl, pos, negsuc, false, true, Some, None, [], ◌∷◌, replicate}
-use Rattle.std.specs.Prelude.{codes}
-use Rattle.std.specs.Fmt.{digits}
+use Rattle.std.specs.{Prelude.codes, Fmt.digits}
 use Rattle.csv.specs.Writing.{fields_text, is_blank, escaped}
 use Rattle.edr_record.specs.declared.Place.TheVariants as place
 use Rattle.edr_record.specs.declared.Profile.TheVariants as profile
-use Rattle.edr_record.specs.declared.Record.{Record}
-use Rattle.edr_record.specs.Complete.{is_complete}
-use Rattle.edr_image.specs.declared.Choice.TheVariants.{Keep, Overwrite}
-use Rattle.edr_image.specs.declared.BankView.TheVariants.{Void, Event, Damaged}
+use Rattle.edr_record.specs.{declared.Record.Record, Complete.is_complete}
+use Rattle.edr_image.specs.declared.{Choice.TheVariants.{Keep, Overwrite}, BankView.TheVariants.{Void, Event, Damaged}}
 use Rattle.edr_image.specs.declared.Applied.TheVariants as applied
 use Rattle.edr_image.specs.declared.Kind.TheVariants as kind
-use Rattle.edr_image.specs.Banks.{Store, events, damaged_banks}
-use Rattle.edr_image.specs.Reports.{Report, Ran, StartStopped}
-use Rattle.edr_report.specs.Words.{time_between}
-use Rattle.edr_report.specs.Report.{event_lines, report_lines, report_text, report_table}
+use Rattle.edr_image.specs.{Banks.{Store, events, damaged_banks}, Reports.{Report, Ran, StartStopped}}
+use Rattle.edr_report.specs.{Words.time_between, Report.{event_lines, report_lines, report_text, report_table}}
 use Rattle.edr_report.specs.Format.{format_line, live_line, migrate_line}
 
 abbrev fresh : Store

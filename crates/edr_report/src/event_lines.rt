@@ -4,12 +4,12 @@ ghost use Rattle.std.specs.Prelude.{◌≡◌, ◌<◌, ◌++◌, OnOk, string_b
 ghost use Rattle.edr_report.specs.EventWords.{place_of, pre_words, crash_words, event_words};
 
 use crate::values::{
-    NONE, Slot, events_in_crash, profile_word, put_count, put_extreme, put_firing,
-    put_milliseconds, put_missing, put_points, put_spaced, put_time_between, yes_no,
+    NONE, Slot, put_count, put_extreme, put_firing, put_milliseconds, put_spaced, put_time_between,
+    yes_no,
 };
 use CrashLine::Fired;
 use EventLine::{After, Before};
-use edr_record::{Crash, Pre, Record};
+use edr_record::{Crash, Place, Pre, Profile, Record, point_count};
 use std::alloc::AllocError as OutOfMemory;
 
 /// A line of an event.
@@ -154,10 +154,16 @@ fn put_before(out: &mut String, pre: &Pre, locked: bool, line: PreLine) -> Resul
     match line {
         PreLine::Cycle => put_count(out, pre.key.cycle),
         PreLine::TimeZero => put_milliseconds(out, pre.key.zero),
-        PreLine::Events => out.push_str(events_in_crash(pre.place)),
+        PreLine::Events => out.push_str(match pre.place {
+            Place::First => "1",
+            Place::Second { .. } => "2",
+        }),
         PreLine::Between => put_time_between(out, pre.place),
         PreLine::Deployment => out.push_str(yes_no(locked)),
-        PreLine::Profile => out.push_str(profile_word(pre.profile())),
+        PreLine::Profile => out.push_str(match pre.profile() {
+            Profile::Short => "short",
+            Profile::Long => "long",
+        }),
         PreLine::Speed => put_spaced(out, pre.speed()),
         PreLine::Throttle => put_spaced(out, pre.throttle()),
         PreLine::Brake => put_spaced(out, pre.brake()),
@@ -172,12 +178,16 @@ fn put_after(out: &mut String, crash: &Crash, line: CrashLine) -> Result<(), Out
 {
     match line {
         CrashLine::End => put_milliseconds(out, u32::from(crash.end)),
-        CrashLine::Along => put_points(out, crash.end, crash.along),
-        CrashLine::Across => put_points(out, crash.end, crash.across),
+        CrashLine::Along => put_spaced(out, &crash.along[..point_count(crash.end)]),
+        CrashLine::Across => put_spaced(out, &crash.across[..point_count(crash.end)]),
         CrashLine::MaxAlong => put_extreme(out, crash.max_along),
         CrashLine::MaxAcross => put_extreme(out, crash.max_across),
         CrashLine::ResultAt => put_milliseconds(out, u32::from(crash.result_at)),
-        CrashLine::Missing => put_missing(out, crash.missing_along, crash.missing_across),
+        CrashLine::Missing => write!(
+            out,
+            "{} longitudinal, {} lateral",
+            crash.missing_along, crash.missing_across
+        ),
         Fired(restraint) => put_firing(out, crash.fired[restraint.place()]),
     }
 }

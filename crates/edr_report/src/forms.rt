@@ -1,12 +1,12 @@
 //! The two forms of a report: lines of text, and the records of a table.
 
-ghost use Rattle.std.specs.Prelude.{◌≡◌, ◌++◌, IfOk, OnOk};
-ghost use Rattle.edr_report.specs.Lines.{line, text_line, table_row, table_head, table_bytes, IsReadyForRecord};
+ghost use Rattle.std.specs.Prelude.{◌≡◌, ◌++◌, OnOk};
+ghost use Rattle.edr_report.specs.Lines.{line, text_line, table_row, table_bytes, IsReadyForRecord};
 
-use csv::{Writer, WriterBuilder};
+use csv::Writer;
 use edr_text::put_line;
 use itoa::Buffer;
-use std::alloc::{AllocError as OutOfMemory, Global};
+use std::alloc::AllocError as OutOfMemory;
 
 /// A form that takes the lines of a report one after the other. It is of no use after a line that it did not take.
 pub trait Lines {
@@ -53,14 +53,4 @@ impl Lines for Writer<Vec<u8>> {
         let fields = [number.format(block).as_bytes(), name, value];
         self.write_fields(&fields).map_err(|_| OutOfMemory)
     }
-}
-
-/// A writer that has written the record of the names of the columns.
-pub fn table_writer(alloc: Global) -> Result<Writer<Vec<u8>>, OutOfMemory>
-    ensures { IfOk result (λ writer. IsReadyForRecord writer × (table_bytes writer ≡ table_head)) }
-{
-    let mut writer = WriterBuilder::new().from_writer(Vec::new(alloc));
-    let head: [&[u8]; 3] = [b"block", b"name", b"value"];
-    writer.write_fields(&head).map_err(|_| OutOfMemory)?;
-    Ok(writer)
 }

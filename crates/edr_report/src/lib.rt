@@ -17,10 +17,10 @@ ghost use Rattle.edr_report.specs.Lines.{text_of, table_of};
 ghost use Rattle.edr_report.specs.Report.{report_lines};
 ghost use Rattle.edr_report.specs.Words.{number_shown, tenths_of};
 
+use csv::WriterBuilder;
 use edr_image::{CycleReport, Found};
 pub use event_lines::{CrashLine, EventLine, LINES_OF_EVENT, PreLine, Restraint};
 pub use forms::Lines;
-use forms::table_writer;
 use printer::print;
 pub use printer::{print_event, print_run};
 pub use short_lines::{
@@ -76,6 +76,9 @@ pub fn table(
 ) -> Result<Vec<u8>, OutOfMemory>
     ensures { IfOk result (λ out. out.items ≡ table_of (report_lines (map report_of run.now) found.now count)) }
 {
-    let writer = print(alloc, table_writer(alloc)?, run, found, count)?;
-    writer.into_inner().map_err(|_| OutOfMemory)
+    let mut writer = WriterBuilder::new().from_writer(Vec::new(alloc));
+    let head: [&[u8]; 3] = [b"block", b"name", b"value"];
+    writer.write_fields(&head).map_err(|_| OutOfMemory)?;
+    let printed = print(alloc, writer, run, found, count)?;
+    printed.into_inner().map_err(|_| OutOfMemory)
 }

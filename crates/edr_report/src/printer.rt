@@ -7,8 +7,8 @@ ghost use Rattle.edr_report.specs.Report.{ack_line, cycle_lines, run_lines, even
 
 use crate::event_lines::{EventLine, LINES_OF_EVENT, put_value};
 use crate::forms::Lines;
-use crate::values::{kind_word, put_applied, put_count, put_stop, yes_no};
-use edr_image::{Ack, BankView, CycleReport, Found};
+use crate::values::{put_applied, put_count, put_stop, yes_no};
+use edr_image::{Ack, BankView, CycleReport, Found, Kind};
 use edr_record::Record;
 use std::alloc::{AllocError as OutOfMemory, Global};
 
@@ -59,7 +59,11 @@ impl<L: Lines> Printer<L> {
         requires { L.ready self.old.lines }
         ensures { OnOk result (Takes L.Lines self.old.lines self.new.lines (ack_line place ack.now ∷ [])) }
     {
-        let kind = kind_word(ack.kind);
+        let kind = match ack.kind {
+            Kind::Take => "take",
+            Kind::Lock => "lock",
+            Kind::Done => "done",
+        };
         let tick = ack.tick;
         self.name.clear();
         write!(self.name, "cycle {place} {kind} at {tick}")?;

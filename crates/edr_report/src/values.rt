@@ -1,11 +1,11 @@
 //! How the values of a report are spelled.
 
 ghost use Rattle.std.specs.Prelude.{◌≡◌, ◌++◌, OnOk, string_bytes, map};
-ghost use Rattle.edr_report.specs.Words.{kind_word, applied_words, stop_words, damage_words, yes_no, shown_count, events_in_crash, time_between, profile_word, milliseconds, firing_words, spaced_words, points_words, extreme_words, missing_words};
+ghost use Rattle.edr_report.specs.Words.{applied_words, stop_words, yes_no, shown_count, time_between, milliseconds, firing_words, spaced_words, extreme_words};
 
 use crate::{number_shown, tenths_of};
-use edr_image::{Applied, Kind};
-use edr_record::{Extreme, POINTS, Place, Profile, point_count};
+use edr_image::Applied;
+use edr_record::{Extreme, Place};
 use std::alloc::AllocError as OutOfMemory;
 
 /// What stands where there is no value.
@@ -89,25 +89,11 @@ pub fn put_spaced<S: Slot>(out: &mut String, slots: &[S]) -> Result<(), OutOfMem
     Ok(())
 }
 
-/// Appends the points of an axis that the end allows.
-pub fn put_points(out: &mut String, end: u16, points: [i16; POINTS]) -> Result<(), OutOfMemory>
-    ensures { OnOk result (string_bytes out.new ≡ string_bytes out.old ++ points_words end points) }
-{
-    put_spaced(out, &points[..point_count(end)])
-}
-
 pub fn put_extreme(out: &mut String, extreme: Extreme) -> Result<(), OutOfMemory>
     ensures { OnOk result (string_bytes out.new ≡ string_bytes out.old ++ extreme_words extreme) }
 {
     let Extreme { kmh, at } = extreme;
     write!(out, "{kmh} km/h at {at} ms")
-}
-
-/// Appends how many ticks have no sample.
-pub fn put_missing(out: &mut String, along: u16, across: u16) -> Result<(), OutOfMemory>
-    ensures { OnOk result (string_bytes out.new ≡ string_bytes out.old ++ missing_words along across) }
-{
-    write!(out, "{along} longitudinal, {across} lateral")
 }
 
 pub fn put_milliseconds(out: &mut String, time: u32) -> Result<(), OutOfMemory>
@@ -167,37 +153,8 @@ pub fn put_stop(out: &mut String, stopped: Option<u32>) -> Result<(), OutOfMemor
     }
 }
 
-pub fn kind_word(kind: Kind) -> &'static str
-    ensures { result.now ≡ kind_word kind }
-{
-    match kind {
-        Kind::Take => "take",
-        Kind::Lock => "lock",
-        Kind::Done => "done",
-    }
-}
-
 pub fn yes_no(b: bool) -> &'static str
     ensures { result.now ≡ yes_no b }
 {
     if b { "yes" } else { "no" }
-}
-
-pub fn profile_word(profile: Profile) -> &'static str
-    ensures { result.now ≡ profile_word profile }
-{
-    match profile {
-        Profile::Short => "short",
-        Profile::Long => "long",
-    }
-}
-
-/// How many events a crash has up to the one in this place.
-pub fn events_in_crash(place: Place) -> &'static str
-    ensures { result.now ≡ events_in_crash place }
-{
-    match place {
-        Place::First => "1",
-        Place::Second { .. } => "2",
-    }
 }

@@ -1,8 +1,7 @@
 use Rattle.std.proofs.Common.{arith, ◌≡◌, ◌∙◌, ap, ℕ, ◌+◌, List, ◌++◌, length, take, length-append}
 use Rattle.edr_record.specs.declared.Record.{Record}
 use Rattle.edr_report.specs.Report.{found_records, event_lines, events_lines}
-use Rattle.edr_report.proofs.PrintedLemmas.{takes-more, numbered-more}
-use Rattle.edr_report.proofs.FoundLemmas.{records-event, records-other}
+use Rattle.edr_report.proofs.{PrintedLemmas.{takes-more, numbered-more}, FoundLemmas.{records-event, records-other}}
 use Rattle.edr_report.proofs.printer.Printer.put_events.Goals as goal
 use Rattle.edr_report.proofs.printer.Printer.put_events.Goals.{in-Event+in_ok-put_event, in_default}
 
