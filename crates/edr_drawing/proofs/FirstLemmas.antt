@@ -3,7 +3,7 @@ use Rattle.std.proofs.Common.{◌≡◌, refl, ℕ, inl, inr, arith, sym, subst,
 use Rattle.std.proofs.lemmas.List.Elements.{Contains-append_right}
 use Rattle.edr_record.specs.{declared.Key.Key, declared.Record.Record}
 use Rattle.edr_image.specs.declared.Found.{Found}
-use Rattle.edr_drawing.specs.{Sheets.{NumberedRecord, events_of, firsts, is_first_of}, Laws.{AreFirsts, MayBeFirst}}
+use Rattle.edr_drawing.specs.{Page.{NumberedRecord, events_of, firsts, is_first_of}, Laws.{AreFirsts, MayBeFirst}}
 use Rattle.edr_drawing.proofs.PartLemmas.{contains_cases, in_one}
 
 -- ---- what is named may be it

@@ -2,14 +2,16 @@
 use Rattle.std.proofs.Common.{◌≡◌, ◌∙◌, sym, ap, subst, ℕ, zero, suc, ◌+◌, ◌*◌, ◌/◌, ◌%◌, ◌<◌, ◌⊎◌, inl, inr, arith, refl, List, [], ◌∷◌, ◌++◌, Contains, length, flat_map, append_assoc, append-nil}
 use Rattle.std.specs.List.{enumerate_from}
 use Rattle.std.proofs.{lemmas.Bool.cases_lt, lemmas.List.Elements.Contains-append_cases}
+use Rattle.hex.specs.Hex.{encode_lower}
 use Rattle.edr_record.specs.{declared.Profile.Profile, declared.Profile.TheVariants.{Short, Long}}
 use Rattle.edr_record.specs.{declared.Record.Record, Bounds.slots_in, Parts.PrePart}
 use Rattle.edr_image.specs.{declared.Found.Found, Reports.Report}
 use Rattle.edr_report.specs.{Lines.Line, Report.{event_lines, events_lines, found_records, run_lines}}
-use Rattle.edr_drawing.specs.{declared.Origin.Origin, Sheets.{NumberedRecord, events_of, place_fact, sheet}}
+use Rattle.edr_drawing.specs.{declared.Origin.Origin, Page.{NumberedRecord, events_of, page_bytes, place_fact, sheet}}
 use Rattle.edr_drawing.specs.Scales.{flat_map_below}
-use Rattle.edr_drawing.specs.Tables.{row, row_of, line_row, elements_table, run_table, block, block_slots, blocks, blocks_in, by_time, slot_row}
-use Rattle.edr_drawing.specs.{Page.page_bytes, Laws.{HasPlace, HasSlotRows, IsInOnePiece, OfEvents, shown_row}}
+use Rattle.edr_drawing.specs.Tables.{row, row_of, line_row, elements_table, run_table, block, blocks_of, by_time, slot_row}
+use Rattle.edr_drawing.proofs.ListLemmas.{run_rows}
+use Rattle.edr_drawing.specs.Laws.{HasPlace, HasSlotRows, IsInOnePiece, OfEvents, shown_row}
 
 -- the bytes stand in the others, in one piece
 pub record Piece (part whole : List ℕ) : Type 0 where
@@ -68,21 +70,18 @@ piece_of_all part form each (y ∷ ys) x among = elim (contains_cases y ys x amo
 
 -- ---- the sheet of an event, among all sheets and on the page
 
-abbrev sheet_of : List NumberedRecord → List ℕ → NumberedRecord → List ℕ
-sheet_of events digest e = sheet events e.0 e.1.0 e.1.1 digest
-
 sheet_on_page : (reports : List Report) (found : List Found) (origin : Origin) (e : NumberedRecord) →
-    Contains (events_of found) e → Piece (sheet_of (events_of found) origin.digest e) (page_bytes reports found origin)
+    Contains (events_of found) e → Piece (sheet (events_of found) (encode_lower origin.digest) e) (page_bytes reports found origin)
 unfolding page_bytes
 sheet_on_page reports found origin e among =
-    let one = sheet_of (events_of found) origin.digest in
+    let one = sheet (events_of found) (encode_lower origin.digest) in
     let here = piece_of_all one one (λ x. piece_itself (one x)) (events_of found) e among in search pieces
 
 -- ---- lines
 
-line_of_sheet : (all : List NumberedRecord) (n bank : ℕ) (r : Record) (digest : List ℕ) (l : Line) → Contains (event_lines n bank r) l → Piece (shown_row l) (sheet all n bank r digest)
+line_of_sheet : (all : List NumberedRecord) (digest : List ℕ) (n bank : ℕ) (r : Record) (l : Line) → Contains (event_lines n bank r) l → Piece (shown_row l) (sheet all digest (n, (bank, r)))
 unfolding sheet elements_table
-line_of_sheet all n bank r digest l among =
+line_of_sheet all digest n bank r l among =
     let here = piece_of_all shown_row line_row (λ x. piece_right (shown_row x) _ (shown_row x) (piece_itself (shown_row x))) (event_lines n bank r) l among in
     search pieces depth 20
 
@@ -90,13 +89,14 @@ pub event_on_page : (reports : List Report) (found : List Found) (origin : Origi
     Contains (events_lines 1 (found_records found)) l → IsInOnePiece (shown_row l) (page_bytes reports found origin)
 event_on_page reports found origin l among =
     let of = in_one (λ (e : NumberedRecord). event_lines e.0 e.1.0 e.1.1) (events_of found) l among in
-    (piece_within (shown_row l) _ _ (line_of_sheet (events_of found) of.0.0 of.0.1.0 of.0.1.1 origin.digest l of.2) (sheet_on_page reports found origin of.0 of.1)).piece
+    (piece_within (shown_row l) _ _ (line_of_sheet (events_of found) (encode_lower origin.digest) of.0.0 of.0.1.0 of.0.1.1 l of.2) (sheet_on_page reports found origin of.0 of.1)).piece
 
 line_of_run : (reports : List Report) (retrieved : ℕ) (l : Line) → Contains (run_lines 1 reports) l → Piece (row_of l) (run_table reports retrieved)
 unfolding run_table
 line_of_run [] retrieved l (k, b, e) = absurd (omega (arith, b))
 line_of_run (r ∷ rs) retrieved l among =
-    let here = piece_of_all row_of row_of (λ x. piece_itself (row_of x)) (run_lines 1 (r ∷ rs)) l among in search pieces
+    let here = piece_of_all row_of row_of (λ x. piece_itself (row_of x)) (run_lines 1 (r ∷ rs)) l among in
+    rw (run_rows 1 (r ∷ rs)) (search pieces)
 
 pub cycle_on_page : (reports : List Report) (found : List Found) (origin : Origin) (l : Line) →
     Contains (run_lines 1 reports) l → IsInOnePiece (row l.name l.value) (page_bytes reports found origin)
@@ -114,14 +114,14 @@ counted_piece f (suc n) k within = elim (cases_lt k n) [
   | inr most ↦ let same : k ≡ n = omega (arith, within, most) in piece_right (f k) (flat_map_below f n) (f n) (rw same (piece_itself (f n)))
 ]
 
-slot_of_blocks : (p : PrePart) (b i : ℕ) → b < blocks_in p.profile → i < block_slots p.profile → Piece (slot_row p (block_slots p.profile * b + i)) (blocks p (blocks_in p.profile))
+slot_of_blocks : (p : PrePart) (b i : ℕ) → b < (blocks_of p.profile).0 → i < (blocks_of p.profile).1 → Piece (slot_row p ((blocks_of p.profile).1 * b + i)) (flat_map_below (block p) (blocks_of p.profile).0)
 unfolding block
 slot_of_blocks p b i few within =
-    let here = counted_piece (λ j. slot_row p (block_slots p.profile * b + j)) (block_slots p.profile) i within in
-    piece_within _ (block p b) _ (search pieces) (counted_piece (block p) (blocks_in p.profile) b few)
+    let here = counted_piece (λ j. slot_row p ((blocks_of p.profile).1 * b + j)) (blocks_of p.profile).1 i within in
+    piece_within _ (block p b) _ (search pieces) (counted_piece (block p) (blocks_of p.profile).0 b few)
 
 -- a slot's block, and its place in it
-slot_place : (f : Profile) (k : ℕ) → k < slots_in f → (b : ℕ) × (i : ℕ) × (b < blocks_in f) × (i < block_slots f) × (block_slots f * b + i ≡ k)
+slot_place : (f : Profile) (k : ℕ) → k < slots_in f → (b : ℕ) × (i : ℕ) × (b < (blocks_of f).0) × (i < (blocks_of f).1) × ((blocks_of f).1 * b + i ≡ k)
 slot_place Short k within = (0, k, omega arith, omega (arith, within), omega arith)
 slot_place Long k within = (k / 67, k % 67, omega (arith, within), omega arith, omega arith)
 
@@ -129,7 +129,7 @@ slot_piece : (n : ℕ) (p : PrePart) (k : ℕ) → k < slots_in p.profile → Pi
 unfolding by_time
 slot_piece n p k within =
     let place = slot_place p.profile k within in
-    let here = subst (λ (j : ℕ). Piece (slot_row p j) (blocks p (blocks_in p.profile))) place.4 (slot_of_blocks p place.0 place.1 place.2 place.3) in
+    let here = subst (λ (j : ℕ). Piece (slot_row p j) (flat_map_below (block p) (blocks_of p.profile).0)) place.4 (slot_of_blocks p place.0 place.1 place.2 place.3) in
     search pieces
 
 pub slot_of_table : (n : ℕ) (p : PrePart) → HasSlotRows p (by_time n p)

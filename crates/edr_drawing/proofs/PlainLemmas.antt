@@ -1,13 +1,14 @@
 -- Texts whose bytes are all below 128, and the templates of a page, which are such texts.
-use Rattle.std.proofs.Common.{arith, ◌≡◌, ℕ, zero, suc, ◌-◌, ◌/◌, ◌%◌, ◌<◌, ltb-true, ℤ, pos, negsuc, Bool, true, false, if◌then◌else◌, nat_lt, nat_eq, Option, Some, None, List, [], ◌∷◌, ◌++◌, flat_map, get_or, take, decimal, All, Bor}
+use Rattle.std.proofs.Common.{arith, ◌≡◌, refl, ℕ, zero, suc, ◌-◌, ◌/◌, ◌%◌, ◌<◌, ltb-true, ℤ, pos, negsuc, Bool, true, false, if◌then◌else◌, nat_lt, nat_eq, Option, Some, None, List, [], ◌∷◌, ◌++◌, flat_map, get_or, decimal, All, Bor}
 use Rattle.std.specs.{List.list_all, Fmt.{signed_decimal, digits, digits_onto, digit_glyph}}
-use Rattle.std.proofs.lemmas.List.Elements.{All-nil, All-cons, All-append, All-head, All-tail, All-take}
+use Rattle.std.proofs.lemmas.{List.Elements.{All-nil, All-cons, All-append}, Str.Ascii.{All-from_ascii, IsAscii-from_all}}
+use Rattle.hex.{specs.Hex.{encode_lower, lower_digits}, proofs.HexLemmas.IsAscii-encode_with}
 use Rattle.std.proofs.lemmas.Bool.{and_parts}
 use Rattle.edr_record.specs.{declared.Place.Place, declared.Place.TheVariants.{First, Second}}
 use Rattle.edr_record.specs.{declared.Profile.Profile, declared.Profile.TheVariants.{Short, Long}}
-use Rattle.edr_drawing.specs.{declared.template.TheConstants.BEGINNING, declared.scales.CarAxis.CarAxis}
+use Rattle.edr_drawing.specs.{declared.scales.CarAxis.CarAxis}
 use Rattle.edr_drawing.specs.{declared.scales.CarAxis.TheVariants.{Along, Across}, Scales.of_axis}
-use Rattle.edr_drawing.specs.Template.{byte_bytes, digest_hex, filled, filled_from, fixed, of_profile, of_switch, place_words}
+use Rattle.edr_drawing.specs.Template.{byte_bytes, filled, filled_from, fixed, of_profile, of_switch, place_words}
 use Rattle.edr_drawing.specs.Scales.{flat_map_below}
 
 -- each byte is below 128
@@ -115,15 +116,11 @@ pub plain_of_axis : (a : CarAxis) (x y : Bor (List ℕ)) → all_low x.now ≡ t
 plain_of_axis Along x y low_x low_y = plain_fixed x.now low_x
 plain_of_axis Across x y low_x low_y = plain_fixed y.now low_y
 
--- a digest
-pub plain_digest : (digest : List ℕ) → All (λ b. b < 256) digest → Plain (digest_hex digest)
-plain_digest [] small = plain_nil
-plain_digest (b ∷ bs) small =
-    let one = All-head (λ b. b < 256) b bs small in
-    plain_cons _ _ (grind (arith, one)) (plain_cons _ _ (grind arith) (plain_digest bs (All-tail (λ b. b < 256) b bs small)))
-
-pub plain_beginning : (digest : List ℕ) → All (λ b. b < 256) digest → Plain (digest_hex (take BEGINNING digest))
-plain_beginning digest small = plain_digest (take BEGINNING digest) (All-take (λ b. b < 256) BEGINNING digest small)
+-- a digest, or its beginning
+pub plain_digest : (digest : List ℕ) → Plain (encode_lower digest)
+plain_digest digest =
+    let low = IsAscii-from_all lower_digits (plain_fixed lower_digits refl).bytes in
+    record { bytes = All-from_ascii (encode_lower digest) (IsAscii-encode_with lower_digits digest low) }
 
 -- texts and numbers
 pub ruleset words = (plain_append, plain_if, plain_nil, plain_decimal, plain_signed, plain_fixed)

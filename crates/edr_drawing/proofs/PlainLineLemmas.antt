@@ -21,7 +21,7 @@ use Rattle.edr_report.specs.declared.event_lines.CrashLine.TheVariants as crash
 use Rattle.edr_report.specs.declared.event_lines.TheConstants.{LINES_OF_EVENT}
 use Rattle.edr_report.specs.EventWords.{pre_words, crash_words, event_words}
 use Rattle.edr_report.specs.Report.{ack_line, cycle_lines, event_line, event_lines, run_lines}
-use Rattle.edr_drawing.specs.Tables.{row_of, line_row}
+use Rattle.edr_drawing.specs.Tables.{line_row}
 use Rattle.edr_drawing.proofs.PlainLemmas.{Plain, all_low, plain_nil, plain_cons, plain_append, plain_fixed, plains}
 
 -- ---- values
@@ -125,13 +125,13 @@ lines_shown name line_of n bank r (l ∷ ls) e = (plain_fixed (name l) (and_part
 plain_row : (l : Line) → Plain l.name → Plain l.value → Plain (line_row l)
 plain_row l h k = search plains depth 20
 
-plain_rows : (form : Line → List ℕ) → ((l : Line) → Plain l.name → Plain l.value → Plain (form l)) → (ls : List Line) → PlainLines ls → Plain (flat_map form ls)
-plain_rows form each [] h = plain_nil
-plain_rows form each (l ∷ ls) h = plain_append (form l) (flat_map form ls) (each l h.0 h.1) (plain_rows form each ls h.2)
+plain_rows : (ls : List Line) → PlainLines ls → Plain (flat_map line_row ls)
+plain_rows [] h = plain_nil
+plain_rows (l ∷ ls) h = plain_append (line_row l) (flat_map line_row ls) (plain_row l h.0 h.1) (plain_rows ls h.2)
 
 pub plain_event_lines : (n bank : ℕ) (r : Record) → Plain (flat_map line_row (event_lines n bank r))
 unfolding event_lines
-plain_event_lines n bank r = plain_rows line_row plain_row (event_lines n bank r) (lines_shown (λ l. l.0.now) (λ l. l.1) n bank r LINES_OF_EVENT refl)
+plain_event_lines n bank r = plain_rows (event_lines n bank r) (lines_shown (λ l. l.0.now) (λ l. l.1) n bank r LINES_OF_EVENT refl)
 
-pub plain_run_lines : (reports : List Report) → Plain (flat_map row_of (run_lines 1 reports))
-plain_run_lines reports = plain_rows row_of (λ l h k. search plains depth 20) (run_lines 1 reports) (lines_flat_map (λ r. cycle_lines r.0 r.1) (λ r. lines_cycle r.0 r.1) (enumerate_from 1 reports))
+pub plain_run_lines : (reports : List Report) → Plain (flat_map line_row (run_lines 1 reports))
+plain_run_lines reports = plain_rows (run_lines 1 reports) (lines_flat_map (λ r. cycle_lines r.0 r.1) (λ r. lines_cycle r.0 r.1) (enumerate_from 1 reports))

@@ -1,5 +1,5 @@
 -- The charts, the sheets and the whole page have plain texts.
-use Rattle.std.proofs.Common.{ℕ, nat_lt, ◌≡◌, ◌+◌, ◌*◌, ℤ, Bool, true, false, Option, Some, None, List, [], ◌∷◌, refl, ◌<◌, All}
+use Rattle.std.proofs.Common.{ℕ, nat_lt, ◌≡◌, ◌+◌, ◌*◌, ℤ, Bool, true, false, Option, Some, None, List, [], ◌∷◌, refl}
 use Rattle.std.specs.List.{list_all}
 use Rattle.std.proofs.lemmas.Bool.{and_parts}
 use Rattle.edr_record.specs.{Parts.{PrePart, CrashPart}, declared.Profile.Profile}
@@ -12,15 +12,13 @@ use Rattle.edr_record.specs.declared.TheConstants.{POINT_STEP}
 use Rattle.edr_drawing.specs.{Template.{shape_bytes, shapes_bytes}, Scales.{change_y, slot_x, time_x}}
 use Rattle.edr_drawing.specs.Before.{before_chart, brake_runs, cells, drawn_lane, lane_y, marked, points, run_shapes, time_lines}
 use Rattle.edr_drawing.specs.After.{axis_shapes, changes_chart, curve, drawn_curve, end_line, level, levels, maximum, shape_at, time_lines as later_lines, after_chart, chart_row, flag_row, row_time, chart_rows, row_words, time_words}
-use Rattle.edr_drawing.proofs.PlainLemmas.{Plain, all_low, plain_nil, plain_append, plain_if, plain_fixed, plain_flat_map, plains, plain_beginning, plain_decimal, plain_digest}
+use Rattle.edr_drawing.proofs.PlainLemmas.{Plain, all_low, plain_nil, plain_append, plain_if, plain_fixed, plain_flat_map, plains, plain_decimal, plain_digest}
 use Rattle.edr_record.specs.{declared.Key.Key, declared.Place.Place, declared.Place.TheVariants.{First, Second}}
-use Rattle.edr_record.specs.declared.Record.{Record}
 use Rattle.edr_image.specs.{declared.BankView.BankView, declared.BankView.TheVariants.Damaged, declared.Found.Found}
 use Rattle.edr_image.specs.Reports.{Report}
 use Rattle.edr_drawing.specs.declared.Origin.{Origin}
-use Rattle.edr_drawing.specs.Sheets.{NumberedRecord, cover_end, cover_start, damaged_item, damaged_list, event_row, events_table, greatest_or_none, pre_reasons, crash_reasons, reasons, firsts_words, place_fact, place_told, sheet}
 use Rattle.edr_drawing.specs.Tables.{points_table, elements_table, run_table, block, by_time, number_word, slot_row}
-use Rattle.edr_drawing.specs.Page.{page_bytes}
+use Rattle.edr_drawing.specs.Page.{NumberedRecord, crash_reasons, damaged_item, damaged_list, event_row, events_table, firsts_words, greatest_or_none, others_words, page_bytes, place_fact, place_told, pre_reasons, reasons, sheet}
 use Rattle.edr_drawing.proofs.PlainLineLemmas.{plain_event_lines, plain_run_lines}
 
 plain_shape : (s : Shape) → Plain (shape_bytes s)
@@ -110,27 +108,30 @@ unfolding by_time block slot_row
 plain_by_time n p = search (plain_number_word, plains) depth 60 fits 4000
 
 -- the sheet of an event
+plain_others : (cycle : ℕ) (ns : List ℕ) → Plain (others_words cycle ns)
+plain_others cycle [] = search plains depth 20
+plain_others cycle (n ∷ ns) = plain_append _ _ (search plains depth 20) (plain_others cycle ns)
+
 plain_firsts : (cycle : ℕ) (ns : List ℕ) → Plain (firsts_words cycle ns)
 plain_firsts cycle [] = search plains depth 20
-plain_firsts cycle (n ∷ ns) = search plains depth 60
+plain_firsts cycle (n ∷ ns) = search (plain_others, plains) depth 60
 
 plain_place_told : (events : List NumberedRecord) (key : Key) (place : Place) → Plain (place_told events key place)
 plain_place_told events key First = search plains depth 20
 plain_place_told events key (Second after) = search (plain_firsts, plains) depth 60
 
-plain_sheet : (events : List NumberedRecord) (n bank : ℕ) (r : Record) (digest : List ℕ) → All (λ b. b < 256) digest → Plain (sheet events n bank r digest)
+plain_sheet : (events : List NumberedRecord) (digest : List ℕ) (e : NumberedRecord) → Plain digest → Plain (sheet events digest e)
 unfolding sheet place_fact reasons pre_reasons elements_table
-plain_sheet events n bank r digest small =
-    search (plain_place_told, plain_crash_reasons, plain_event_lines, plain_points_table, plain_before_chart, plain_after_chart, plain_by_time, plain_digest, plains) depth 60 fits 8000
+plain_sheet events digest (n, (bank, r)) h =
+    search (plain_place_told, plain_crash_reasons, plain_event_lines, plain_points_table, plain_before_chart, plain_after_chart, plain_by_time, plains) depth 60 fits 8000
 
 -- the first sheet
 plain_greatest : (crash : Option CrashPart) (a : CarAxis) → Plain (greatest_or_none crash a)
 plain_greatest None a = plain_fixed NONE.now refl
 plain_greatest (Some c) a = search plains depth 20
 
-plain_event_row : (n bank : ℕ) (r : Record) → Plain (event_row n bank r)
-unfolding event_row
-plain_event_row n bank r = search (plain_greatest, plains) depth 60
+plain_event_row : (e : NumberedRecord) → Plain (event_row e)
+plain_event_row (n, (bank, r)) = search (plain_greatest, plains) depth 60
 
 plain_events : (events : List NumberedRecord) → Plain (events_table events)
 unfolding events_table
@@ -142,8 +143,7 @@ plain_damaged bank (Damaged o x l) = search plains depth 20
 plain_damaged bank view = plain_nil
 
 -- the whole page
-pub plain_page : (reports : List Report) (found : List Found) (origin : Origin) → All (λ b. b < 256) origin.digest →
-    Plain (page_bytes reports found origin)
-unfolding page_bytes cover_start cover_end damaged_list
-plain_page reports found origin small =
-    search (plain_events, plain_damaged, plain_run, plain_sheet, plain_digest, plain_beginning, plains) depth 60 fits 8000
+pub plain_page : (reports : List Report) (found : List Found) (origin : Origin) → Plain (page_bytes reports found origin)
+unfolding page_bytes damaged_list
+plain_page reports found origin =
+    search (plain_events, plain_damaged, plain_run, plain_sheet, plain_digest, plains) depth 60 fits 8000

@@ -9,7 +9,7 @@ use Rattle.edr_drawing.specs.declared.template.Shape.TheVariants as shape
 use Rattle.edr_drawing.specs.declared.{Origin.Origin, before.ChartLane.ChartLane, scales.{CarAxis.CarAxis, Scale.Scale, TheConstants.NO_SAMPLE}}
 use Rattle.edr_drawing.specs.{Template.shapes_bytes, Scales.{change_y, greatest_words, time_x}, Before.{cells, mark, point, points}}
 use Rattle.edr_drawing.specs.{After.{curve, maximum, silent_curve}, Tables.{slot_row, row, shown_value}}
-use Rattle.edr_drawing.specs.{Sheets.{events_of, firsts, place_fact}, Page.page_bytes}
+use Rattle.edr_drawing.specs.Page.{events_of, firsts, page_bytes, place_fact}
 
 -- the bytes stand in the others, in one piece
 abbrev pub IsInOnePiece : List ℕ → List ℕ → Type 0

@@ -3,6 +3,5 @@ pub mod Scales
 pub mod Before
 pub mod After
 pub mod Tables
-pub mod Sheets
 pub mod Page
 pub mod Laws

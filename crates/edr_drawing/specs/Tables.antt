@@ -1,30 +1,13 @@
 -- The tables of a page.
-use Rattle.std.specs.Prelude.{ℕ, ◌+◌, ◌-◌, ◌*◌, min, ℤ, Bool, true, false, count_by, ◌||◌, if◌then◌else◌, nat_eq, Option, Some, None, List, [], ◌∷◌, ◌++◌, flat_map, decimal, ◌/◌, get_or}
-use Rattle.std.specs.Cmp.Lexicographic.{pointwise}
-use Rattle.std.specs.Fmt.{signed_decimal}
-use Rattle.edr_record.specs.declared.Record.{Record}
-use Rattle.edr_record.specs.declared.TheConstants.{POINT_STEP, LONG_SLOTS, SHORT_SLOTS}
-use Rattle.edr_record.specs.Parts.{CrashPart, PrePart}
-use Rattle.edr_record.specs.Bounds.{point_count}
-use Rattle.edr_image.specs.declared.Applied.{Applied}
-use Rattle.edr_image.specs.declared.Applied.TheVariants.{Kept}
-use Rattle.edr_image.specs.Reports.{Report, StartStopped, Ran}
-use Rattle.edr_report.specs.Lines.{Line}
-use Rattle.edr_report.specs.Report.{event_lines, run_lines}
-use Rattle.edr_drawing.specs.declared.scales.CarAxis.{CarAxis}
-use Rattle.edr_drawing.specs.declared.scales.CarAxis.TheVariants.{Along, Across}
-use Rattle.edr_drawing.specs.declared.scales.TheConstants.{AXIS_NAMES, NO_SAMPLE}
-use Rattle.edr_drawing.specs.declared.tables.Elements.{Elements}
-use Rattle.edr_drawing.specs.declared.tables.Rows.{Rows}
-use Rattle.edr_drawing.specs.declared.tables.TheConstants.{AXIS_ROW, CELL, ELEMENTS_END, ELEMENTS_START, IN_TABLE, LINE, LISTS, MOST_TAKEN, NEXT_TABLE, POINT_TIME, POINTS_BODY, POINTS_START, ROW_END, RUN_START, SECOND_TABLE, SILENT_CELL, TABLE_END, BLOCK_START, BY_TIME_END, BY_TIME_START, KILOMETRE, LONG_BLOCKS, MILE, SLOT_ROW}
-use Rattle.edr_drawing.specs.Template.{filled, fixed, before_zero, of_profile, of_switch}
-use Rattle.edr_drawing.specs.Scales.{is_silent, of_axis, points_of}
-use Rattle.edr_drawing.specs.Scales.{flat_map_below}
-use Rattle.edr_record.specs.declared.Profile.{Profile}
-use Rattle.edr_record.specs.declared.Profile.TheVariants.{Short, Long}
-use Rattle.edr_drawing.specs.declared.before.TheConstants.{SPANS}
-use Rattle.edr_drawing.specs.declared.template.TheConstants.{NONE, SWITCH_WORDS}
-use Rattle.edr_drawing.specs.declared.sheets.TheConstants.{PROFILES}
+use Rattle.std.specs.{Prelude.{ℕ, ◌+◌, ◌-◌, ◌*◌, min, ℤ, Bool, true, false, count_by, if◌then◌else◌, nat_eq, Option, Some, None, List, [], ◌∷◌, ◌++◌, flat_map, decimal, ◌/◌, get_or}, List.{list_any}, Cmp.Lexicographic.{pointwise}, Fmt.{signed_decimal}}
+use Rattle.edr_record.specs.{Bounds.point_count, Parts.{CrashPart, PrePart}}
+use Rattle.edr_record.specs.declared.{Profile.Profile, Profile.TheVariants.{Short, Long}, Record.Record, TheConstants.{LONG_SLOTS, POINT_STEP, SHORT_SLOTS}}
+use Rattle.edr_image.specs.{Reports.{Report, StartStopped, Ran}, declared.{Applied.Applied, Applied.TheVariants.Kept}}
+use Rattle.edr_report.specs.{Lines.Line, Report.{event_lines, run_lines}}
+use Rattle.edr_drawing.specs.declared.{scales.CarAxis.CarAxis, scales.CarAxis.TheVariants.{Along, Across}, scales.TheConstants.{AXIS_NAMES, NO_SAMPLE}, before.TheConstants.SPANS}
+use Rattle.edr_drawing.specs.declared.{sheets.TheConstants.PROFILES, template.TheConstants.{NONE, SWITCH_WORDS}}
+use Rattle.edr_drawing.specs.declared.tables.TheConstants.{AXIS_ROW, BLOCK_START, BY_TIME_END, BY_TIME_START, CELL, ELEMENTS_END, ELEMENTS_START, IN_TABLE, KILOMETRE, LINE, LISTS, LONG_BLOCKS, MILE, MOST_TAKEN, NEXT_TABLE, POINT_TIME, POINTS_BODY, POINTS_START, ROW_END, RUN_START, SECOND_TABLE, SILENT_CELL, SLOT_ROW, TABLE_END}
+use Rattle.edr_drawing.specs.{Scales.{flat_map_below, is_silent, of_axis, points_of}, Template.{before_zero, filled, fixed, of_profile, of_switch}}
 
 -- ---- rows of names and values
 
@@ -32,29 +15,17 @@ use Rattle.edr_drawing.specs.declared.sheets.TheConstants.{PROFILES}
 abbrev pub row : List ℕ → List ℕ → List ℕ
 row name value = filled LINE.now (name ∷ value ∷ [])
 
--- the row of a line of a report, word for word
+-- that of a line, word for word
 abbrev pub row_of : Line → List ℕ
 row_of l = row l.name l.value
 
--- whether a line has one of these names
-abbrev pub is_one_of : {L : Type 0} → (L → List ℕ) → List ℕ → List L → Bool
-is_one_of words name [] = false
-is_one_of words name (l ∷ ls) = pointwise nat_eq name (words l) || is_one_of words name ls
-
 -- what the row of a line of an event shows: a list that the table by time has stands there
 abbrev pub shown_value : Line → List ℕ
-shown_value l = if is_one_of (λ w. w.now) l.name LISTS then IN_TABLE.now else l.value
+shown_value l = if list_any (λ w. pointwise nat_eq w.now l.name) LISTS then IN_TABLE.now else l.value
 
 -- that row, before one of which a second table begins
 abbrev pub line_row : Line → List ℕ
 line_row l = (if pointwise nat_eq l.name SECOND_TABLE.now then fixed NEXT_TABLE.now else []) ++ row l.name (shown_value l)
-
--- what the rows so far are
-abbrev pub rows_bytes : Rows → List ℕ
-rows_bytes r = r.bytes.items
-
-abbrev pub elements_bytes : Elements → List ℕ
-elements_bytes r = r.bytes.items
 
 -- ---- the changes of speed
 
@@ -118,7 +89,7 @@ run_table [] retrieved = []
 run_table (r ∷ rs) retrieved =
     filled RUN_START.now
     (decimal (taken_shown (r ∷ rs)) ∷ decimal retrieved ∷ decimal (taken_shown (r ∷ rs) - retrieved) ∷ [])
-    ++ flat_map row_of (run_lines 1 (r ∷ rs))
+    ++ flat_map line_row (run_lines 1 (r ∷ rs))
     ++ fixed TABLE_END.now
 
 -- ---- the row of a slot
@@ -155,31 +126,21 @@ slot_row p k =
 
 -- ---- the blocks
 
--- how many slots a block has, and how many blocks stand beside each other
-abbrev pub block_slots : Profile → ℕ
-block_slots Short = SHORT_SLOTS
-block_slots Long = LONG_SLOTS / LONG_BLOCKS
+-- how many blocks stand beside each other, and how many slots each of them has
+abbrev pub blocks_of : Profile → ℕ × ℕ
+blocks_of Short = (1, SHORT_SLOTS)
+blocks_of Long = (LONG_BLOCKS, LONG_SLOTS / LONG_BLOCKS)
 
-abbrev pub blocks_in : Profile → ℕ
-blocks_in Short = 1
-blocks_in Long = LONG_BLOCKS
-
--- the rows of so many slots from the first on
-abbrev pub slot_rows : PrePart → ℕ → ℕ → List ℕ
-slot_rows p first count = flat_map_below (λ i. slot_row p (first + i)) count
-
+-- block b, which has the rows of so many slots
 unfoldable pub block : PrePart → ℕ → List ℕ
 block p b =
     fixed BLOCK_START.now
-    ++ slot_rows p (block_slots p.profile * b) (block_slots p.profile)
+    ++ flat_map_below (λ i. slot_row p ((blocks_of p.profile).1 * b + i)) (blocks_of p.profile).1
     ++ fixed TABLE_END.now
-
-abbrev pub blocks : PrePart → ℕ → List ℕ
-blocks p count = flat_map_below (block p) count
 
 -- the table of event n
 unfoldable pub by_time : ℕ → PrePart → List ℕ
 by_time n p =
     filled BY_TIME_START.now (decimal n ∷ (of_profile p.profile PROFILES).now ∷ (of_profile p.profile SPANS).now ∷ [])
-    ++ blocks p (blocks_in p.profile)
+    ++ flat_map_below (block p) (blocks_of p.profile).0
     ++ fixed BY_TIME_END.now

@@ -1,5 +1,5 @@
 -- Templates of a page, what goes into their holes, and the shapes of a chart, each from whole numbers alone.
-use Rattle.std.specs.Prelude.{ℕ, ◌+◌, ◌-◌, ◌/◌, ◌%◌, Bool, true, false, if◌then◌else◌, nat_eq, nat_lt, Option, Some, None, List, [], ◌∷◌, ◌++◌, flat_map, get_or, take, codes, decimal}
+use Rattle.std.specs.Prelude.{ℕ, ◌-◌, ◌/◌, ◌%◌, Bool, true, false, if◌then◌else◌, nat_eq, Option, Some, None, List, [], ◌∷◌, ◌++◌, flat_map, get_or, codes, decimal}
 use Rattle.std.specs.Fmt.{signed_decimal}
 use Rattle.edr_record.specs.{declared.Place.Place, declared.Place.TheVariants.{First, Second}}
 use Rattle.edr_record.specs.{declared.Profile.Profile, declared.Profile.TheVariants.{Short, Long}}
@@ -8,7 +8,7 @@ use Rattle.edr_drawing.specs.declared.template.Filling.{Filling}
 use Rattle.edr_drawing.specs.declared.template.Filling.TheVariants as filling
 use Rattle.edr_drawing.specs.declared.template.Shape.{Shape}
 use Rattle.edr_drawing.specs.declared.template.Shape.TheVariants as shape
-use Rattle.edr_drawing.specs.declared.template.TheConstants.{AFTER_FIRST, BEGINNING, DOT, FIELD, FIELD_CLASSES, FIRST, JOINED_OR_FIRST, NUMBER, SECOND, SQUARE, SWITCH_WORDS, WORD, WORD_CLASSES}
+use Rattle.edr_drawing.specs.declared.template.TheConstants.{AFTER_FIRST, DOT, FIELD, FIELD_CLASSES, FIRST, JOINED_OR_FIRST, NUMBER, SECOND, SQUARE, SWITCH_WORDS, WORD, WORD_CLASSES}
 
 -- ---- words
 
@@ -26,13 +26,6 @@ abbrev pub of_switch : {A : Type 0} → Option Bool → A × A × A → A
 of_switch (Some true) three = three.0
 of_switch (Some false) three = three.1
 of_switch None three = three.2
-
--- two hexadecimal digits for each byte
-abbrev pub hex_digit : ℕ → ℕ
-hex_digit n = if nat_lt n 10 then 48 + n else 97 + (n - 10)
-
-abbrev pub digest_hex : List ℕ → List ℕ
-digest_hex digest = flat_map (λ b. hex_digit (b / 16) ∷ hex_digit (b % 16) ∷ []) digest
 
 -- tenths of a second, as seconds
 abbrev pub seconds : ℕ → List ℕ
@@ -59,8 +52,6 @@ filling_bytes (filling.Place p) = place_words p
 filling_bytes (filling.Milliseconds t) = milliseconds t
 filling_bytes (filling.Before tenths) = before_zero tenths
 filling_bytes (filling.Extreme x) = extreme_words x
-filling_bytes (filling.Digest d) = digest_hex d
-filling_bytes (filling.Beginning d) = digest_hex (take BEGINNING d)
 
 -- ---- templates
 

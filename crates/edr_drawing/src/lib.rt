@@ -15,11 +15,12 @@ ghost use Rattle.edr_image.specs.Reports.{report_of};
 ghost use Rattle.edr_drawing.specs.Page.{page_bytes};
 
 use edr_image::{CycleReport, Found};
-use long::{BODY, HEAD, PAGE_END, STYLE};
-use sheets::{events_of, put_cover_end, put_cover_start, put_sheets};
+use edr_report::number_shown;
+use long::{BODY, FORM_AND_NOTES, HEAD, PAGE_END, STYLE};
+use sheets::{FIRST_FOOT, FIRST_SHEET, damaged_in, events_of, put_damaged, put_events, put_sheets};
 use std::alloc::{AllocError as OutOfMemory, Global};
 use tables::put_run;
-use template::Filling::{Beginning, Text};
+use template::Filling::{Count, Number, Text};
 use template::{fill, put};
 
 /// The version of the program that draws a page, as the file VERSION has it.
@@ -36,6 +37,9 @@ pub struct Origin {
     pub digest: [u8; 32],
 }
 
+/// How many bytes of a digest are its beginning.
+pub const BEGINNING: usize = 8;
+
 /// The page of what a report tells: the cycles of a run, what was found in the banks in this order, and its origin.
 #[tactic(auto, unfolding(crate::specs::Page::page_bytes))]
 pub fn page(
@@ -46,14 +50,23 @@ pub fn page(
 ) -> Result<Vec<u8>, OutOfMemory>
     ensures { IfOk result (λ out. out.items ≡ page_bytes (map report_of run.now) found.now origin.now) }
 {
-    let events = events_of(alloc, found)?;
+    let (events, damaged) = (events_of(alloc, found)?, damaged_in(found));
+    let recorded = events.len() as u64;
+    let digest = hex::encode(alloc, origin.digest)?;
+    let beginning = hex::encode(alloc, &origin.digest[..BEGINNING])?;
     let mut out = Vec::new(alloc);
-    let head = [Beginning(origin.digest), Text(STYLE), Text(BODY)];
+    let head = [Text(beginning.as_bytes()), Text(STYLE), Text(BODY)];
     fill(&mut out, HEAD, &head)?;
-    put_cover_start(&mut out, &events, found, origin.count)?;
-    put_run(&mut out, alloc, run, events.len() as u64)?;
-    put_cover_end(&mut out, origin)?;
-    put_sheets(&mut out, alloc, &events, &origin.digest)?;
+    let count = number_shown(origin.count);
+    let counts = [Count(recorded), Count(damaged), Number(count)];
+    fill(&mut out, FIRST_SHEET, &counts)?;
+    put_events(&mut out, &events)?;
+    put_damaged(&mut out, found)?;
+    put_run(&mut out, alloc, run, recorded)?;
+    put(&mut out, FORM_AND_NOTES)?;
+    let foot = [Number(origin.size), Text(digest.as_bytes()), Text(VERSION)];
+    fill(&mut out, FIRST_FOOT, &foot)?;
+    put_sheets(&mut out, alloc, &events, digest.as_bytes())?;
     put(&mut out, PAGE_END)?;
     Ok(out)
 }

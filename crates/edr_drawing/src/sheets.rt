@@ -1,18 +1,16 @@
 //! The sheets of a page. The first one says what was found; that of an event has its place in its crash, why its record
 //! isn't complete, its charts and its tables.
 
-ghost use Rattle.std.specs.Prelude.{◌≡◌, ◌++◌, IfOk, OnOk};
-ghost use Rattle.edr_drawing.specs.Sheets.{cover_end, cover_start, crash_reasons, damaged_in, damaged_item, damaged_list, event_row, events_of, events_table, firsts, firsts_words, greatest_or_none, is_first_of, missing_reason, numbered, place_fact, pre_reasons, reasons, share_reason, sheet, sheets, slots_reason};
+ghost use Rattle.std.specs.Prelude.{◌≡◌, ◌++◌, IfOk, OnOk, flat_map};
+ghost use Rattle.edr_drawing.specs.Page.{crash_reasons, damaged_in, damaged_list, events_of, events_table, firsts, firsts_words, greatest_or_none, is_first_of, missing_reason, numbered, numbered_one, place_fact, pre_reasons, reasons, share_reason, sheet, slots_reason};
 ghost use Rattle.edr_drawing.specs.Template.{filling_bytes};
 
 use crate::after::draw_after;
 use crate::before::draw_before;
-use crate::long::FORM_AND_NOTES;
 use crate::scales::{AXIS_NAMES, CarAxis, greatest, missing_of, of_axis};
 use crate::tables::{TABLE_END, put_by_time, put_elements, put_points_table};
-use crate::template::Filling::{Count, Digest, Number, Seconds, Text};
+use crate::template::Filling::{Count, Number, Seconds, Text};
 use crate::template::{Drawn, FIRST, Filling, NONE, either, fill, fill_if, of_profile, put};
-use crate::{Origin, VERSION};
 use edr_image::{BankView, Found};
 use edr_record::{Crash, Key, LONGEST_PAIR, Place, Pre, Record, window_from_end};
 use edr_report::{LARGEST_SHOWN_COUNT, number_shown, tenths_of};
@@ -31,16 +29,14 @@ pub fn events_of<'a>(alloc: Global, found: &'a [Found]) -> Result<Vec<FoundEvent
     ensures { IfOk result (λ events. numbered events.items ≡ events_of found.now) }
 {
     let mut events = Vec::new(alloc);
-    let mut number = 1;
     for one in found {
         if let BankView::Event(event) = &one.view {
-            let bank = one.bank;
+            let (number, bank) = (events.len() as u64 + 1, one.bank);
             events.push(FoundEvent {
                 number,
                 bank,
                 event,
             })?;
-            number += 1;
         }
     }
     Ok(events)
@@ -81,8 +77,8 @@ pub const FIRST_FOOT: &[u8] =
 </section>
 "#;
 
-// How many damaged banks were found.
-fn damaged_in(found: &[Found]) -> u64
+/// How many damaged banks were found.
+pub fn damaged_in(found: &[Found]) -> u64
     ensures { result ≡ damaged_in found.now }
 {
     let damaged = |one: &&Found| matches!(one.view, BankView::Damaged { .. });
@@ -98,100 +94,58 @@ fn greatest_or_none(crash: &Option<Crash>, axis: CarAxis) -> Filling<'static>
         .map_or(Text(NONE), |crash| greatest(crash, axis))
 }
 
-// Appends the row of an event.
-#[tactic(auto, unfolding(crate::specs::Sheets::event_row))]
-fn put_event_row(out: &mut Vec<u8>, one: &FoundEvent<'_>) -> Drawn
-    ensures { OnOk result (out.new.items ≡ out.old.items ++ event_row one.now.number one.now.bank one.now.event.now) }
-{
-    let event = one.event;
-    let cells = [
-        Count(one.number),
-        Number(u32::from(one.bank)),
-        Number(number_shown(event.pre.key.cycle)),
-        Number(event.pre.key.zero),
-        Filling::Place(event.pre.place),
-        Text(either(event.locked, YES_NO)),
-        greatest_or_none(&event.crash, CarAxis::Along),
-        greatest_or_none(&event.crash, CarAxis::Across),
-        Text(either(event.complete(), YES_NO)),
-    ];
-    fill(out, EVENT_ROW, &cells)
-}
-
-// Appends the table of events, if there are any.
-#[tactic(auto, unfolding(crate::specs::Sheets::events_table))]
-fn put_events(out: &mut Vec<u8>, events: &[FoundEvent<'_>]) -> Drawn
+/// Appends the table of events, if there are any.
+#[tactic(auto, unfolding(crate::specs::Page::events_table))]
+pub fn put_events(out: &mut Vec<u8>, events: &[FoundEvent<'_>]) -> Drawn
     ensures { OnOk result (out.new.items ≡ out.old.items ++ events_table (numbered events.now)) }
 {
     if events.is_empty() {
         return Ok(());
     }
     put(out, EVENTS_START)?;
-    for event in events {
-        put_event_row(out, event)?;
+    for FoundEvent {
+        number,
+        bank,
+        event,
+    } in events {
+        let cells = [
+            Count(*number),
+            Number(u32::from(*bank)),
+            Number(number_shown(event.pre.key.cycle)),
+            Number(event.pre.key.zero),
+            Filling::Place(event.pre.place),
+            Text(either(event.locked, YES_NO)),
+            greatest_or_none(&event.crash, CarAxis::Along),
+            greatest_or_none(&event.crash, CarAxis::Across),
+            Text(either(event.complete(), YES_NO)),
+        ];
+        fill(out, EVENT_ROW, &cells)?;
     }
     put(out, TABLE_END)
 }
 
-// Appends the item of a bank, if it is damaged.
-fn put_damaged_item(out: &mut Vec<u8>, bank: &Found) -> Drawn
-    ensures { OnOk result (out.new.items ≡ out.old.items ++ damaged_item bank.now.bank bank.now.view) }
-{
-    match bank.view {
-        BankView::Damaged {
-            offset,
-            found,
-            locked,
-        } => {
-            let bank = Number(u32::from(bank.bank));
-            let (offset, found) = (Number(u32::from(offset)), Number(u32::from(found)));
-            let mark = Text(either(locked, SET_OR_NOT));
-            fill(out, DAMAGED_BANK, &[bank, offset, found, mark])
-        }
-        _ => Ok(()),
-    }
-}
-
-// Appends the list of damaged banks, if there are any.
-#[tactic(auto, unfolding(crate::specs::Sheets::damaged_list))]
-fn put_damaged(out: &mut Vec<u8>, found: &[Found]) -> Drawn
+/// Appends the list of damaged banks, if there are any.
+#[tactic(auto, unfolding(crate::specs::Page::damaged_list))]
+pub fn put_damaged(out: &mut Vec<u8>, found: &[Found]) -> Drawn
     ensures { OnOk result (out.new.items ≡ out.old.items ++ damaged_list found.now) }
 {
     if damaged_in(found) == 0 {
         return Ok(());
     }
     put(out, DAMAGED_START)?;
-    for bank in found {
-        put_damaged_item(out, bank)?;
+    for Found { bank, view } in found {
+        if let BankView::Damaged {
+            offset,
+            found,
+            locked,
+        } = view
+        {
+            let (offset, found) = (Number(u32::from(*offset)), Number(u32::from(*found)));
+            let (bank, mark) = (Number(u32::from(*bank)), Text(either(*locked, SET_OR_NOT)));
+            fill(out, DAMAGED_BANK, &[bank, offset, found, mark])?;
+        }
     }
     put(out, LIST_END)
-}
-
-/// Appends the first sheet up to the cycles of the run.
-#[tactic(auto, unfolding(crate::specs::Sheets::cover_start))]
-pub fn put_cover_start(
-    out: &mut Vec<u8>,
-    events: &[FoundEvent<'_>],
-    found: &[Found],
-    count: u32,
-) -> Drawn
-    ensures { OnOk result (out.new.items ≡ out.old.items ++ cover_start (numbered events.now) found.now count) }
-{
-    let (recorded, damaged) = (events.len() as u64, damaged_in(found));
-    let counts = [Count(recorded), Count(damaged), Number(number_shown(count))];
-    fill(out, FIRST_SHEET, &counts)?;
-    put_events(out, events)?;
-    put_damaged(out, found)
-}
-
-/// Appends what the first sheet has after them.
-#[tactic(auto, unfolding(crate::specs::Sheets::cover_end))]
-pub fn put_cover_end(out: &mut Vec<u8>, origin: &Origin) -> Drawn
-    ensures { OnOk result (out.new.items ≡ out.old.items ++ cover_end origin.now) }
-{
-    put(out, FORM_AND_NOTES)?;
-    let foot = [Number(origin.size), Digest(origin.digest), Text(VERSION)];
-    fill(out, FIRST_FOOT, &foot)
 }
 
 pub const PLACE_START: &[u8] = b"<li>Place in crash: <b>";
@@ -201,10 +155,8 @@ pub const PLACE_END: &[u8] = b"</b></li></ul>\n";
 /// How long after the first event of its pair a second one began.
 pub const SECOND_AFTER: &[u8] = b"second, {0} s after ";
 
-/// The events of the report that may be that first one.
-pub const EVENT: &[u8] = b"event {0}";
-
-pub const OR_EVENT: &[u8] = b" or {0}";
+/// An event of the report that may be that first one, after another one and as the first of them.
+pub const OR_EVENT: (&[u8], &[u8]) = (b" or {0}", b"event {0}");
 
 pub const ELSEWHERE: &[u8] = b"an event that isn't in this report";
 
@@ -224,56 +176,35 @@ fn is_first_of(second: Key, after: u32, pre: &Pre) -> bool
         && tenths_of(second.zero - first.zero) == tenths_of(after)
 }
 
-// The numbers of the events that may be the first one of the pair.
-fn firsts(
-    alloc: Global,
-    key: Key,
-    after: u32,
-    events: &[FoundEvent<'_>],
-) -> Result<Vec<u64>, OutOfMemory>
-    ensures { IfOk result (λ numbers. numbers.items ≡ firsts key after (numbered events.now)) }
+// Appends the events that may be the first one of the pair whose second one has this key, and began so long after it.
+fn put_firsts(out: &mut Vec<u8>, events: &[FoundEvent<'_>], key: Key, after: u32) -> Drawn
+    ensures { OnOk result (out.new.items ≡ out.old.items ++ firsts_words key.cycle (firsts key after (numbered events.now))) }
 {
-    let mut numbers = Vec::new(alloc);
+    let mut is_named = false;
     for one in events {
         if is_first_of(key, after, &one.event.pre) {
-            numbers.push(one.number)?;
+            fill(out, either(is_named, OR_EVENT), &[Count(one.number)])?;
+            is_named = true;
         }
     }
-    Ok(numbers)
-}
-
-// Appends the events that may be the first one of a pair in this ignition cycle.
-fn put_firsts(out: &mut Vec<u8>, cycle: u32, numbers: &[u64]) -> Drawn
-    ensures { OnOk result (out.new.items ≡ out.old.items ++ firsts_words cycle numbers.now) }
-{
-    let [number, others @ ..] = numbers else {
-        return put(out, ELSEWHERE);
-    };
-    fill(out, EVENT, &[Count(*number)])?;
-    for other in others {
-        fill(out, OR_EVENT, &[Count(*other)])?;
+    if is_named {
+        fill_if(out, LARGEST_SHOWN_COUNT <= key.cycle, IF_SAME_CYCLE, &[])
+    } else {
+        put(out, ELSEWHERE)
     }
-    fill_if(out, LARGEST_SHOWN_COUNT <= cycle, IF_SAME_CYCLE, &[])
 }
 
 // Appends the place of an event in its crash, with the events of the report of which it may be the second.
-#[tactic(auto, unfolding(crate::specs::Sheets::place_fact))]
-fn put_place_fact(
-    out: &mut Vec<u8>,
-    alloc: Global,
-    all: &[FoundEvent<'_>],
-    key: Key,
-    place: Place,
-) -> Drawn
-    ensures { OnOk result (out.new.items ≡ out.old.items ++ place_fact (numbered all.now) key place) }
+#[tactic(auto, unfolding(crate::specs::Page::place_fact))]
+fn put_place_fact(out: &mut Vec<u8>, events: &[FoundEvent<'_>], pre: &Pre) -> Drawn
+    ensures { OnOk result (out.new.items ≡ out.old.items ++ place_fact (numbered events.now) pre.now.key pre.now.place) }
 {
     put(out, PLACE_START)?;
-    match place {
+    match pre.place {
         Place::First => put(out, FIRST)?,
         Place::Second { after } => {
             fill(out, SECOND_AFTER, &[Seconds(tenths_of(after))])?;
-            let numbers = firsts(alloc, key, after, all)?;
-            put_firsts(out, key.cycle, &numbers)?;
+            put_firsts(out, events, pre.key, after)?;
         }
     }
     put(out, PLACE_END)
@@ -322,7 +253,7 @@ fn put_absent<T>(out: &mut Vec<u8>, name: &'static [u8], slots: &[Option<T>]) ->
 }
 
 // Tells what is absent of the time before time zero.
-#[tactic(auto, unfolding(crate::specs::Sheets::pre_reasons))]
+#[tactic(auto, unfolding(crate::specs::Page::pre_reasons))]
 fn put_pre_reasons(out: &mut Vec<u8>, pre: &Pre) -> Drawn
     ensures { OnOk result (out.new.items ≡ out.old.items ++ pre_reasons pre.now) }
 {
@@ -355,7 +286,7 @@ fn put_crash_reasons(out: &mut Vec<u8>, crash: &Option<Crash>) -> Drawn
 }
 
 // Tells why a record isn't complete, if it isn't.
-#[tactic(auto, unfolding(crate::specs::Sheets::reasons))]
+#[tactic(auto, unfolding(crate::specs::Page::reasons))]
 fn put_reasons(out: &mut Vec<u8>, event: &Record) -> Drawn
     ensures { OnOk result (out.new.items ≡ out.old.items ++ reasons event.now) }
 {
@@ -381,41 +312,37 @@ pub const SHEET_FOOT: &[u8] =
 /// The words of the profiles, which are classes too.
 pub const PROFILES: (&[u8], &[u8]) = (b"short", b"long");
 
-// Appends the sheet of one of the events that were found.
-#[tactic(auto, unfolding(crate::specs::Sheets::sheet))]
+/// Appends the sheet of one of the events that were found, which names the report by its digest.
+#[tactic(auto, unfolding(crate::specs::Page::sheet))]
 fn put_sheet(
     out: &mut Vec<u8>,
     alloc: Global,
     events: &[FoundEvent<'_>],
     one: &FoundEvent<'_>,
-    digest: &[u8; 32],
+    digest: &[u8],
 ) -> Drawn
-    ensures { OnOk result (out.new.items ≡ out.old.items ++ sheet (numbered events.now) one.now.number one.now.bank one.now.event.now digest.now) }
+    ensures { OnOk result (out.new.items ≡ out.old.items ++ sheet (numbered events.now) digest.now (numbered_one one.now)) }
 {
-    let FoundEvent {
-        number,
-        bank,
-        event,
-    } = *one;
+    let (number, event) = (one.number, one.event);
     let pre = &event.pre;
     let head = [
         Count(number),
         Text(either(event.complete(), YES_NO)),
         Number(number_shown(pre.key.cycle)),
         Number(pre.key.zero),
-        Number(u32::from(bank)),
+        Number(u32::from(one.bank)),
         Text(either(event.locked, YES_NO)),
         Text(of_profile(pre.profile(), PROFILES)),
     ];
     fill(out, SHEET_HEAD, &head)?;
-    put_place_fact(out, alloc, events, pre.key, pre.place)?;
+    put_place_fact(out, events, pre)?;
     put_reasons(out, event)?;
     draw_before(out, number, pre)?;
     draw_after(out, number, &event.crash)?;
-    put_elements(out, alloc, number, bank, event)?;
+    put_elements(out, alloc, number, one.bank, event)?;
     put_points_table(out, &event.crash)?;
     put_by_time(out, number, pre)?;
-    fill(out, SHEET_FOOT, &[Count(number), Digest(*digest)])
+    fill(out, SHEET_FOOT, &[Count(number), Text(digest)])
 }
 
 /// Appends the sheets of all events that were found.
@@ -423,9 +350,9 @@ pub fn put_sheets(
     out: &mut Vec<u8>,
     alloc: Global,
     events: &[FoundEvent<'_>],
-    digest: &[u8; 32],
+    digest: &[u8],
 ) -> Drawn
-    ensures { OnOk result (out.new.items ≡ out.old.items ++ sheets (numbered events.now) digest.now) }
+    ensures { OnOk result (out.new.items ≡ out.old.items ++ flat_map (sheet (numbered events.now) digest.now) (numbered events.now)) }
 {
     for event in events {
         put_sheet(out, alloc, events, event, digest)?;

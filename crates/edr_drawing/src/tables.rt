@@ -2,7 +2,7 @@
 
 ghost use Rattle.std.specs.Prelude.{◌≡◌, ◌++◌, ◌≤◌, ◌<◌, ◌+◌, ◌*◌, OnOk, map, min, ◌/◌};
 ghost use Rattle.edr_image.specs.Reports.{report_of};
-ghost use Rattle.edr_drawing.specs.Tables.{change_row, elements_bytes, elements_table, is_one_of, line_row, points_table, row, row_of, rows_bytes, run_table, taken_in, taken_of, block, block_slots, blocks_in, by_time, mph, number_word, slot_at, slot_row, slot_tenths};
+ghost use Rattle.edr_drawing.specs.Tables.{block, blocks_of, by_time, change_row, elements_table, mph, number_word, points_table, run_table, slot_at, slot_row, slot_tenths, taken_in, taken_of};
 ghost use Rattle.edr_drawing.specs.Template.{filling_bytes};
 
 use crate::before::SPANS;
@@ -71,38 +71,18 @@ pub const RUN_START: &[u8] = br#"<table>
 <tbody>
 "#;
 
-/// The rows of lines of a report.
+/// The rows of lines of a report, without the lists that the table by time has.
 #[derive(Drop)]
 struct Rows {
     bytes: Vec<u8>,
 }
 
 impl Lines for Rows {
-    ghost use Rattle.edr_drawing.specs.Tables.{rows_bytes, row_of};
+    ghost use Rattle.edr_drawing.specs.Tables.{line_row};
 
     ghost ready = { λ _. Unit {0} };
 
-    ghost bytes = { rows_bytes };
-
-    ghost form = { row_of };
-
-    fn line(&mut self, _block: u64, name: &[u8], value: &[u8]) -> Drawn {
-        put_row(&mut self.bytes, name, value)
-    }
-}
-
-/// The rows of the lines of an event, without the lists that the table by time has.
-#[derive(Drop)]
-struct Elements {
-    bytes: Vec<u8>,
-}
-
-impl Lines for Elements {
-    ghost use Rattle.edr_drawing.specs.Tables.{elements_bytes, line_row};
-
-    ghost ready = { λ _. Unit {0} };
-
-    ghost bytes = { elements_bytes };
+    ghost bytes = { λ rows. rows.bytes.items };
 
     ghost form = { line_row };
 
@@ -110,26 +90,13 @@ impl Lines for Elements {
         if name == SECOND_TABLE {
             put(&mut self.bytes, NEXT_TABLE)?;
         }
-        if is_list(name, &LISTS) {
-            put_row(&mut self.bytes, name, IN_TABLE)
+        let shown = if LISTS.contains(&name) {
+            IN_TABLE
         } else {
-            put_row(&mut self.bytes, name, value)
-        }
+            value
+        };
+        fill(&mut self.bytes, LINE, &[Text(name), Text(shown)])
     }
-}
-
-// Whether a line has one of these names.
-fn is_list(name: &[u8], names: &[&'static [u8]; 3]) -> bool
-    ensures { result ≡ is_one_of (λ w. w.now) name.now names.now }
-{
-    name == names[0] || name == names[1] || name == names[2]
-}
-
-// Appends the row of a line.
-fn put_row(out: &mut Vec<u8>, name: &[u8], value: &[u8]) -> Drawn
-    ensures { OnOk result (out.new.items ≡ out.old.items ++ row name.now value.now) }
-{
-    fill(out, LINE, &[Text(name), Text(value)])
 }
 
 // Appends the row of an axis: a cell for each point, or that it has no sample.
@@ -178,10 +145,8 @@ pub fn put_elements(
 ) -> Drawn
     ensures { OnOk result (out.new.items ≡ out.old.items ++ elements_table number bank event.now) }
 {
-    let empty = Elements {
-        bytes: Vec::new(alloc),
-    };
-    let rows = print_event(alloc, empty, number, bank, event)?;
+    let bytes = Vec::new(alloc);
+    let rows = print_event(alloc, Rows { bytes }, number, bank, event)?;
     put(out, ELEMENTS_START)?;
     out.extend_from_slice(&rows.bytes)?;
     put(out, ELEMENTS_END)
@@ -217,10 +182,8 @@ pub fn put_run(out: &mut Vec<u8>, alloc: Global, run: &[CycleReport], found: u64
     if run.is_empty() {
         return Ok(());
     }
-    let empty = Rows {
-        bytes: Vec::new(alloc),
-    };
-    let rows = print_run(alloc, empty, run)?;
+    let bytes = Vec::new(alloc);
+    let rows = print_run(alloc, Rows { bytes }, run)?;
     let taken = taken_in(run);
     let gone = Count(taken.saturating_sub(found));
     fill(out, RUN_START, &[Count(taken), Count(found), gone])?;
@@ -253,24 +216,15 @@ pub const KILOMETRE: u64 = 1_000_000;
 
 pub const MILE: u64 = 1_609_344;
 
-// How many slots a block has.
-fn block_slots(profile: Profile) -> u32
-    ensures slots { result ≡ block_slots profile }
-    ensures range { result ≤ LONG_SLOTS }
+// How many blocks stand beside each other, and how many slots each of them has.
+fn blocks_of(profile: Profile) -> (u32, u32)
+    ensures blocks { result ≡ blocks_of profile }
+    ensures few { result.0 ≤ LONG_BLOCKS }
+    ensures range { result.1 ≤ LONG_SLOTS }
 {
     match profile {
-        Profile::Short => SHORT_SLOTS as u32,
-        Profile::Long => LONG_SLOTS as u32 / LONG_BLOCKS,
-    }
-}
-
-fn blocks_in(profile: Profile) -> u32
-    ensures blocks { result ≡ blocks_in profile }
-    ensures range { result ≤ LONG_BLOCKS }
-{
-    match profile {
-        Profile::Short => 1,
-        Profile::Long => LONG_BLOCKS,
+        Profile::Short => (1, SHORT_SLOTS as u32),
+        Profile::Long => (LONG_BLOCKS, LONG_SLOTS as u32 / LONG_BLOCKS),
     }
 }
 
@@ -326,7 +280,7 @@ fn put_block(out: &mut Vec<u8>, pre: &Pre, number: u32) -> Drawn
     requires { number < LONG_BLOCKS }
     ensures { OnOk result (out.new.items ≡ out.old.items ++ block pre.now number) }
 {
-    let count = block_slots(pre.profile());
+    let (_, count) = blocks_of(pre.profile());
     put(out, BLOCK_START)?;
     for i in 0..count {
         put_slot(out, pre, count * number + i)?;
@@ -343,7 +297,8 @@ pub fn put_by_time(out: &mut Vec<u8>, number: u64, pre: &Pre) -> Drawn
     let class = Text(of_profile(profile, PROFILES));
     let span = Text(of_profile(profile, SPANS));
     fill(out, BY_TIME_START, &[Count(number), class, span])?;
-    for part in 0..blocks_in(profile) {
+    let (count, _) = blocks_of(profile);
+    for part in 0..count {
         put_block(out, pre, part)?;
     }
     put(out, BY_TIME_END)

@@ -5,7 +5,7 @@
 //! on a sheet of A4.
 
 ghost use Rattle.std.specs.Prelude.{◌≡◌, ◌++◌, ◌≤◌, OnOk, map};
-ghost use Rattle.edr_drawing.specs.Template.{byte_bytes, digest_hex, either, filled, filled_if, filling_bytes, fixed, hex_digit, of_profile, of_switch, seconds, shape_bytes, shapes_bytes};
+ghost use Rattle.edr_drawing.specs.Template.{byte_bytes, either, filled, filled_if, filling_bytes, fixed, of_profile, of_switch, seconds, shape_bytes, shapes_bytes};
 
 use Filling::{Number, Text};
 use edr_record::{Extreme, Place, Profile};
@@ -22,9 +22,6 @@ pub const FIRST: &[u8] = b"first or only";
 pub const SECOND: &[u8] = b"second, ";
 
 pub const AFTER_FIRST: &[u8] = b" s after the first";
-
-/// How many bytes of a digest are its beginning.
-pub const BEGINNING: usize = 8;
 
 /// What goes into a hole of a template.
 #[derive(Clone, Copy)]
@@ -44,10 +41,6 @@ pub enum Filling<'a> {
     Before(u64),
     /// A greatest change, with its time.
     Extreme(Extreme),
-    /// A digest, in hexadecimal digits.
-    Digest([u8; 32]),
-    /// The beginning of a digest.
-    Beginning([u8; 32]),
 }
 
 /// The first of two if this is so, or else the second.
@@ -93,22 +86,6 @@ fn put_seconds(out: &mut Vec<u8>, tenths: u64) -> Drawn
     put_number(out, tenths % 10)
 }
 
-fn hex_digit(n: u8) -> u8
-    requires { n ≤ 15 }
-    ensures { result ≡ hex_digit n }
-{
-    if n < 10 { b'0' + n } else { b'a' + (n - 10) }
-}
-
-fn put_digest(out: &mut Vec<u8>, digest: &[u8]) -> Drawn
-    ensures { OnOk result (out.new.items ≡ out.old.items ++ digest_hex digest.now) }
-{
-    for byte in digest {
-        out.extend_from_slice(&[hex_digit(byte / 16), hex_digit(byte % 16)])?;
-    }
-    Ok(())
-}
-
 fn put_filling(out: &mut Vec<u8>, filling: Filling<'_>) -> Drawn
     ensures { OnOk result (out.new.items ≡ out.old.items ++ filling_bytes filling.entry) }
 {
@@ -143,8 +120,6 @@ fn put_filling(out: &mut Vec<u8>, filling: Filling<'_>) -> Drawn
             put_number(out, extreme.at)?;
             out.extend_from_slice(b" ms")
         }
-        Filling::Digest(digest) => put_digest(out, &digest),
-        Filling::Beginning(digest) => put_digest(out, &digest[..BEGINNING]),
     }
 }
 

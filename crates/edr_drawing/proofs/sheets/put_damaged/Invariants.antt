@@ -1,5 +1,5 @@
 use Rattle.std.proofs.Common.{◌≡◌, ◌++◌, take}
-use Rattle.edr_drawing.specs.Sheets.{damaged_items}
+use Rattle.edr_drawing.specs.Page.{damaged_items}
 use Rattle.edr_drawing.proofs.sheets.put_damaged.Given as goal
 
 abbrev pub invariant-loop-bank : goal.invariant-loop-bank
