@@ -34,8 +34,7 @@ ToldNext a c v cycles block banks value more name.Count = (n : ℕ) × (value �
 abbrev pub IsNextRow : Bool → Bool → Bool → ℕ → ℕ → List ℕ → List (List ℕ) → FieldRows → Type 0
 IsNextRow a c v cycles block banks r more =
     ((x : ToldName) × IsToldName x × (value : List ℕ) × (r ≡ decimal 0 ∷ name_words cycles x ∷ value ∷ []) × ToldNext a c v cycles block banks value more x)
-    ⊎ ((v ≡ true) × (slice_index_or r 0 [] ≡ decimal block) × (left : ℕ) × (rest : List ℕ) × IsDistinct eqb (banks ++ left ∷ rest)
-    × ((e : ℕ × Record) → MayFollowLine 0 block banks e (r ∷ more)))
+    ⊎ ((v ≡ true) × (slice_index_or r 0 [] ≡ decimal block) × (ℕ × Record) × ((e : ℕ × Record) → MayFollowLine 0 block banks e (r ∷ more)))
 
 is-true : (b : Bool) → (b ≡ false → ⊥) → b ≡ true
 is-true true h = refl
@@ -91,7 +90,10 @@ next-row {a} {c} {v} {cycles} {block} {banks} r more m = by m.acks m.reports m.e
     by [] [] (k ∷ events) damaged h na nr ne dis are =
         let last = last_rows damaged m.count in
         let is : r ∷ more ≡ event_fields block k.0 k.1 ++ (events_fields (block + 1) events ++ last) = are ∙ ap (λ (x : FieldRows). x ++ last) (events-first block k events) ∙ append_assoc (event_fields block k.0 k.1) (events_fields (block + 1) events) last in
-        inr (is-true v (λ f. not-nil k events (ne f)), first-block block k.0 k.1 (events_fields (block + 1) events ++ last) r more is, k.0, map (λ e. e.0) events ++ banks_in damaged, dis, (λ e. record { event = k; events = events; damaged = damaged; count = m.count; event_bounds = All-head IsEvent k events h.2; events_bounds = All-tail IsEvent k events h.2; damaged_bounds = h.3; agrees = no-agreement e k; distinct = dis; are = is }))
+        let left = map (λ (e : ℕ × Record). e.0) events ++ banks_in damaged in
+        let now : IsDistinct eqb ((banks ++ k.0 ∷ []) ++ left) = subst (IsDistinct eqb) (sym (append_assoc banks (k.0 ∷ []) left)) dis in
+        let follow : (i : ℕ) → MayFollow false false true i (block + 1) (banks ++ k.0 ∷ []) (events_fields (block + 1) events ++ last) = λ i. record { acks = []; reports = []; events = events; damaged = damaged; count = m.count; bounds = (none IsAck, none IsReport, All-tail IsEvent k events h.2, h.3); no_acks = λ f. refl; no_reports = λ f. refl; no_events = λ f. cc; distinct = now; are = refl } in
+        inr (is-true v (λ f. not-nil k events (ne f)), first-block block k.0 k.1 (events_fields (block + 1) events ++ last) r more is, k, (λ e. record { event = k; bounds = All-head IsEvent k events h.2; agrees = no-agreement e k; after = _; follow = follow; are = is }))
     by [] [] [] (k ∷ damaged) h na nr ne dis are =
         let head : r ≡ damaged_fields k = cc in
         let rest : more ≡ last_rows damaged m.count = cc in

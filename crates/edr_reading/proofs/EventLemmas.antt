@@ -1,11 +1,11 @@
 -- The rows and the lines of an event, and how a reader in one takes them or refuses them.
 use Rattle.std.proofs.{lemmas.List.FromFn.fill_by_all, Math.Seq.{take-append-add, take-length}}
-use Rattle.std.proofs.Common.{arith, ◌≡◌, ◌∙◌, sym, ap, refl, ℕ, zero, suc, ◌+◌, ◌<◌, Bool, List, [], ◌∷◌, ◌++◌, length, map, take, drop, get_or, decimal, Option, None, Some, subst, ◌-◌, ◌≤◌, false, set, ◌≢◌, ap₂, ◌^◌, ⊎_elim, true, eqb, append_assoc, length-append}
+use Rattle.std.proofs.Common.{arith, ◌≡◌, ◌∙◌, sym, ap, refl, ℕ, zero, suc, ◌+◌, ◌<◌, Bool, List, [], ◌∷◌, ◌++◌, length, map, take, drop, get_or, decimal, Option, None, Some, subst, ◌-◌, ◌≤◌, false, set, ◌≢◌, ap₂, ◌^◌, ⊎_elim, ◌⊎◌, inl, inr, true, eqb, append_assoc, length-append}
 use Rattle.std.proofs.lemmas.List.{take_more, length-map, take-append-le, take-map, take-set, append-nil, drop_more, take-append-drop, length-drop}
 use Rattle.std.specs.{Option.{IfSome, option_map_or}, List.{IsDistinct, slice_index_or}}
 use Rattle.edr_record.specs.{declared.Record.Record, Bounds.IsCrash, Complete.{is_complete, misses_no_tick}}
 use Rattle.edr_record.specs.Parts.{PrePart, CrashPart}
-use Rattle.edr_report.specs.{EventWords.{event_words, place_of}, Report.{event_line, event_lines}, Words.{yes_no, firing_words}}
+use Rattle.edr_report.specs.{EventWords.{event_words, place_of}, Report.{event_line, event_lines}, Words.{yes_no, firing_words, none_word}}
 use Rattle.edr_report.specs.declared.event_lines.EventLine.{EventLine, TheVariants.{Number, Before, After}}
 use Rattle.edr_report.specs.declared.event_lines.{TheConstants.LINES_OF_EVENT, PreLine.PreLine, CrashLine.CrashLine}
 use Rattle.edr_report.specs.declared.event_lines.Restraint.{Restraint}
@@ -13,14 +13,19 @@ use Rattle.edr_report.specs.declared.event_lines.PreLine.TheVariants as pre
 use Rattle.edr_report.specs.declared.event_lines.CrashLine.TheVariants as crash
 use Rattle.edr_report.specs.declared.event_lines.Restraint.TheVariants as restraint
 use Rattle.edr_reading.specs.declared.event.PartEvent.{PartEvent}
-use Rattle.edr_reading.specs.Reading.{event_place, event_texts, EventAgrees, first_texts, pre_texts, PartsAgree, PreAgrees, crash_place, crash_texts, pre_place, AcceptsLine, AcceptsEventLine, IsNextEvent, event_of, FieldRows, Texts, event_fields, event_names, line_fields, AreReport, ReportGoesOn, IsAck, IsDamaged, IsEvent, IsReport, banks_in, count_fields, damaged_fields, events_fields, last_rows, IsRecord, AreDistinct}
+use Rattle.edr_reading.specs.Reading.{event_place, event_texts, EventAgrees, first_texts, pre_texts, PartsAgree, PreAgrees, crash_place, crash_texts, pre_place, AcceptsLine, AcceptsEventLine, AcceptsPartLine, part_words, IsNextEvent, event_of, FieldRows, Texts, HasNoBank, event_fields, line_fields, AreReport, ReportGoesOn, IsDamaged, IsEvent, banks_in, count_fields, IsRecord, AreDistinct}
 use Rattle.edr_reading.specs.Reader.{GoesOnIn, IsBetween, IsInside, IsRefused, IsToldReport, MayFollowLine, whole}
 use Rattle.edr_reading.specs.declared.reader.Refused.TheVariants as refused
 use Rattle.edr_image.specs.{declared.Found.Found, Banks.found_event, Reports.Report}
-use Rattle.edr_reading.proofs.BetweenLemmas.{banks-more, All-last, refuse-2, refuse-3, next-row, none}
+use Rattle.edr_reading.proofs.BetweenLemmas.{banks-more, All-last, refuse-2, refuse-3, next-row, none, some-rows}
+use Rattle.edr_reading.proofs.SlotLemmas.{end-none}
 use Rattle.edr_reading.proofs.WholeLemmas.{alone, distinct-more, decimal-same, told-report, whole-event}
 
 -- ---- the rows of an event, by the names and values of its lines
+
+-- the names of its lines
+abbrev pub event_names : Texts
+event_names = map (λ l. l.0.now) LINES_OF_EVENT
 
 -- rows of a block with these names and values
 abbrev pub block_fields : List ℕ → Texts → Texts → FieldRows
@@ -173,6 +178,20 @@ after-earlier l block bank p is_locked c d hc hd same =
     let fd : take (crash_place l) (crash_texts d ++ last d) ≡ take (crash_place l) (crash_texts d) = take-append-le (crash_place l) (crash_texts d) (last d) (omega (arith, most, d-long)) in
     front-before (decimal block ∷ decimal bank ∷ pre_texts p is_locked) (crash_texts d ++ last d) (crash_texts c ++ last c) (crash_place l) (fd ∙ same ∙ sym fc)
 
+none-follows : (l : CrashLine) (f : Option CrashPart) → IfSome f IsCrash → PartsAgree (crash_place l) None f → none_word ≡ part_words f l → PartsAgree (crash_place l + 1) None f
+none-follows l None ok a s = tt
+none-follows crash.End (Some d) ok a s = absurd (end-none d.end (omega (arith, ok.end_to)) s)
+none-follows l (Some d) ok a s = absurd (omega (arith, a))
+
+end-follows : (f : Option CrashPart) → IfSome f IsCrash → none_word ≡ part_words f crash.End → PartsAgree 1 None f
+end-follows None ok s = tt
+end-follows (Some d) ok s = absurd (end-none d.end (omega (arith, ok.end_to)) s)
+
+-- where nothing came after time zero, each line says so
+pub none-line : (l : CrashLine) (c : Option CrashPart) (value : List ℕ) → (l ≡ crash.End) ⊎ (c ≡ None) → value ≡ none_word → AcceptsPartLine l value c (Some None)
+none-line l c value (inl e) is = rw e (record { bounds = tt; shows = is; earlier = sym (no-rows (crash_texts c)); whole = λ f ok a s. end-follows f ok (sym is ∙ s) })
+none-line l c value (inr e) is = rw e (record { bounds = tt; shows = is; earlier = refl; whole = λ f ok a s. none-follows l f ok a (sym is ∙ s) })
+
 ticks-same : (c d : Option CrashPart) → PartsAgree 15 c d → option_map_or misses_no_tick c false ≡ option_map_or misses_no_tick d false
 ticks-same None None a = refl
 ticks-same None (Some d) a = absurd (omega (arith, a))
@@ -188,35 +207,33 @@ complete-same e f a =
 
 -- ---- what a line may be
 
+-- no bank that was told is that of the event
+pub line-alone : {k block : ℕ} (found : List Found) {e : ℕ × Record} {more : FieldRows} (m : MayFollowLine k block (banks_in found) e more) → HasNoBank found m.event.0
+line-alone found m = let f = m.follow 0 in alone found m.event.0 _ (subst (IsDistinct eqb) (append_assoc (banks_in found) (m.event.0 ∷ []) _) f.distinct)
+
 -- the next row is a line of an event, which goes on after it
 pub line-row : {k block : ℕ} (found : List Found) {e : ℕ × Record} {r : List (List ℕ)} {more : FieldRows} → k < 29 → MayFollowLine k block (banks_in found) e (r ∷ more)
     → (f : ℕ × Record) × IsNextEvent found f × EventAgrees k e f × (r ≡ decimal block ∷ get_or event_names k [] ∷ event_words block f.0 f.1 (get_or lines k Number) ∷ [])
     × ((g : ℕ × Record) → EventAgrees (k + 1) g f → MayFollowLine (k + 1) block (banks_in found) g more)
 line-row {k} {block} found {e} {r} {more} small m =
     let f = m.event in
-    let tail = events_fields (block + 1) m.events ++ last_rows m.damaged m.count in
     let rows = event_fields block f.0 f.1 in
     let long = event-long block f.0 f.1 in
-    let is : r ∷ more ≡ get_or rows k [] ∷ (drop (k + 1) rows ++ tail) = m.are ∙ ap (λ (x : FieldRows). x ++ tail) (drop_more rows k [] (omega (arith, small, long))) in
+    let is : r ∷ more ≡ get_or rows k [] ∷ (drop (k + 1) rows ++ m.after) = m.are ∙ ap (λ (x : FieldRows). x ++ m.after) (drop_more rows k [] (omega (arith, small, long))) in
     let head : r ≡ get_or rows k [] = cc in
-    let rest : more ≡ drop (k + 1) rows ++ tail = cc in (
+    let rest : more ≡ drop (k + 1) rows ++ m.after = cc in (
       f,
-      record { bank = m.event_bounds.0; alone = alone found f.0 (map (λ e. e.0) m.events ++ banks_in m.damaged) m.distinct; record_bounds = m.event_bounds.1 },
+      record { bank = m.bounds.0; alone = line-alone found m; record_bounds = m.bounds.1 },
       m.agrees,
       head ∙ row-at block f k small,
-      (λ g a. record { event = f; events = m.events; damaged = m.damaged; count = m.count; event_bounds = m.event_bounds; events_bounds = m.events_bounds; damaged_bounds = m.damaged_bounds; agrees = a; distinct = m.distinct; are = rest }),
+      (λ g a. record { event = f; bounds = m.bounds; agrees = a; after = m.after; follow = m.follow; are = rest }),
     )
 
 -- how many rows follow at least
 pub line-most : {k block : ℕ} {banks : List ℕ} {e : ℕ × Record} {more : FieldRows} → MayFollowLine k block banks e more → 30 ≤ length more + k
 line-most {k} {block} m =
-    let tail = events_fields (block + 1) m.events ++ last_rows m.damaged m.count in
     let rows = event_fields block m.event.0 m.event.1 in
-    let e0 = length-drop k rows in
-    let e1 = length-append (drop k rows) tail in
-    let e2 = length-append (events_fields (block + 1) m.events) (last_rows m.damaged m.count) in
-    let e3 = length-append (map damaged_fields m.damaged) (count_fields m.count ∷ []) in
-    omega (arith, ap length m.are, e0, e1, e2, e3, event-long block m.event.0 m.event.1)
+    omega (arith, ap length m.are, length-drop k rows, length-append (drop k rows) m.after, some-rows (m.follow 0), event-long block m.event.0 m.event.1)
 
 -- one event more
 told-event : {reports : List Report} (es : List (ℕ × Record)) (f : ℕ × Record) → IsToldReport reports es [] → IsNextEvent (map found_event es) f → IsToldReport reports (es ++ f ∷ []) []
@@ -312,24 +329,10 @@ module _ {k : ℕ} {e : ℕ × Record} {reports : List Report} {es : List (ℕ �
               rest = λ more a.
                   let m = line-follow more a in
                   let g = m.event in
-                  let tail = events_fields (block + 1) m.events ++ last_rows m.damaged m.count in
-                  let rest : more ≡ tail = m.are ∙ ap (λ (n : ℕ). drop n (event_fields block g.0 g.1) ++ tail) last ∙ ap (λ (x : FieldRows). x ++ tail) (event-gone block g.0 g.1) in
-                  let bank : f.0 ≡ g.0 = m.agrees.bank (omega (arith, last)) in
-                  let left = map (λ (x : ℕ × Record). x.0) m.events ++ banks_in m.damaged in
-                  let dis : IsDistinct eqb ((banks_in (map found_event es) ++ f.0 ∷ []) ++ left) = subst (IsDistinct eqb) (sym (append_assoc (banks_in (map found_event es)) (f.0 ∷ []) left)) (subst (λ (b : ℕ). IsDistinct eqb (banks_in (map found_event es) ++ b ∷ left)) (sym bank) m.distinct) in
-                  record {
-                    acks = [];
-                    reports = [];
-                    events = m.events;
-                    damaged = m.damaged;
-                    count = m.count;
-                    bounds = (none IsAck, none IsReport, m.events_bounds, m.damaged_bounds);
-                    no_acks = λ z. refl;
-                    no_reports = λ z. refl;
-                    no_events = λ z. cc;
-                    distinct = subst (λ (x : List ℕ). IsDistinct eqb (x ++ left)) banks dis;
-                    are = rest ∙ ap (λ (n : ℕ). events_fields n m.events ++ last_rows m.damaged m.count) count;
-                  };
+                  let rest : more ≡ m.after = m.are ∙ ap (λ (n : ℕ). drop n (event_fields block g.0 g.1) ++ m.after) last ∙ ap (λ (x : FieldRows). x ++ m.after) (event-gone block g.0 g.1) in
+                  let bank : g.0 ≡ f.0 = sym (m.agrees.bank (omega (arith, last))) in
+                  let told = ap (λ (b : ℕ). banks_in (map found_event es) ++ b ∷ []) bank ∙ banks in
+                  rw (rest, sym count, sym told) (m.follow (length reports));
             }
 
 -- ---- the first line
@@ -344,6 +347,6 @@ first-line {reports = reports} es e h few bounds room = record {
   short = omega (arith, room);
   rest = λ r more b rep. ⊎_elim
       (λ l. absurd (let z = decimal-same 0 (length es + 1) (omega arith) few (sym (ap (λ (x : List (List ℕ)). slice_index_or x 0 []) l.3) ∙ b) in omega (arith, z)))
-      (λ n. subst (λ (x : List Found). MayFollowLine 0 (length es + 1) (banks_in x) e (r ∷ more)) (append-nil (map found_event es)) (n.5 e))
+      (λ n. subst (λ (x : List Found). MayFollowLine 0 (length es + 1) (banks_in x) e (r ∷ more)) (append-nil (map found_event es)) (n.3 e))
       (next-row r more (h.rest (r ∷ more) rep));
 }

@@ -5,19 +5,19 @@ use Rattle.std.proofs.lemmas.List.{drop_all, take_all, append-nil, take-append-d
 use Rattle.edr_report.specs.{Report.report_lines, declared.TheConstants.LARGEST_SHOWN_COUNT}
 use Rattle.edr_report.specs.{declared.event_lines.EventLine.TheVariants.Number, EventWords.event_words}
 use Rattle.edr_reading.proofs.{WholeLemmas.{distinct-none, all-three, told-reading}, BetweenLemmas.{between-count, some-rows}}
-use Rattle.edr_reading.proofs.EventLemmas.{inside-count, lines}
+use Rattle.edr_reading.proofs.EventLemmas.{event_names, inside-count, lines}
 use Rattle.edr_reading.specs.declared.reading.{RowFault.{RowFault, TheVariants.{Fields, Field, Unended}}, Reading.Reading}
 use Rattle.edr_reading.specs.declared.reading.ReportRefused.{ReportRefused, TheVariants.{Fault, OutOfMemory}}
 use Rattle.edr_reading.specs.declared.{reader.{NextRow.NextRow, Reader.Reader}, values.CycleRow.CycleRow}
 use Rattle.edr_reading.specs.Reader.{HasReadRows, IsBetween, IsRefused, IsRowRefusal, StandsNext, cycles_read}
-use Rattle.edr_reading.specs.Reading.{line_fields, FieldRows, event_fields, event_names, AreReport, Opens, ReportGoesOn, IsFault, IsWrong, IsReading, head_row, report_rows, rows_told, count_fields, event_of}
+use Rattle.edr_reading.specs.Reading.{line_fields, FieldRows, event_fields, AreReport, Opens, ReportGoesOn, IsFault, IsWrong, IsReading, head_row, report_rows, rows_told, count_fields, event_of}
 use Rattle.edr_reading.specs.declared.reading.RowFault.TheVariants as fault
 use Rattle.edr_reading.specs.declared.reader.NextRow.TheVariants as next
 use Rattle.edr_reading.specs.declared.reader.Refused.TheVariants as refused
 use Rattle.edr_record.specs.declared.Record.{Record}
 use Rattle.edr_image.specs.{declared.Found.Found, Banks.found_event, Reports.Report}
 use Rattle.edr_spell.specs.Spell.{RecordsOf}
-use Rattle.std.specs.Result.{IfErr, IfOk}
+use Rattle.std.specs.Result.{IfErr, IfOk, result_or}
 
 -- ---- the first row of a text that is no report
 
@@ -147,3 +147,8 @@ memory-alone records (Err OutOfMemory) h a = refl
 pub rows-read : (bytes : List ℕ) (records : FieldRows) (res : Result Reading ReportRefused) → RecordsOf bytes records → IfOk res (λ r. records ≡ rows_told r) → IfOk res (λ r. RecordsOf bytes (rows_told r))
 rows-read bytes records (Ok r) are h = subst (RecordsOf bytes) h are
 rows-read bytes records (Err e) are h = tt
+
+-- what `or(Err(..))?` lets through
+pub or-ok : {A E D : Type 0} (r : Result A E) (d : D) (x : A) → ◌≡◌ {A = Result A D} (Ok x) (result_or r (Err d)) → r ≡ Ok x
+or-ok (Ok y) d x is = let same : x ≡ y = cc in ap Ok (sym same)
+or-ok (Err e) d x is = cc

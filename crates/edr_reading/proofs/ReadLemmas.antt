@@ -1,24 +1,22 @@
 -- What a reader has read, by its fields.
-use Rattle.std.proofs.lemmas.{Bool.cases_lt, List.{append-nil, length-map}}
+use Rattle.std.proofs.lemmas.{List.{append-nil, length-map}}
 use Rattle.std.proofs.Common.{arith, ◌≡◌, ◌≢◌, ◌∙◌, sym, ap, ap₂, subst, refl, ℕ, ◌+◌, ◌<◌, ◌≤◌, ◌^◌, ◌⊎◌, inl, inr, ⊎_elim, Bool, true, false, List, [], ◌∷◌, ◌++◌, map, length, append_assoc, length-append, decimal, get_or, eqb, Option, None, Some, Result, Ok, Err}
-use Rattle.std.specs.{List.{IsDistinct, slice_index_or, All}, Result.{IfErr, OnOk}}
+use Rattle.std.specs.{Option.ok_or, List.{IsDistinct, slice_index_or, All}}
 use Rattle.edr_image.specs.declared.{Ack.Ack, Applied.{Applied, TheVariants.NotKept}, BankView.BankView, Found.Found, Kind.Kind}
 use Rattle.edr_image.specs.{Banks.found_event, Reports.{Report, Ran, report_of}}
 use Rattle.edr_image.specs.declared.BankView.TheVariants as view
 use Rattle.edr_record.specs.declared.Record.{Record}
-use Rattle.edr_record.specs.declared.Profile.TheVariants as profile
-use Rattle.edr_record.specs.declared.Place.TheVariants as place
 use Rattle.edr_report.specs.{Words.{applied_words, shown_count}, declared.TheConstants.LARGEST_SHOWN_COUNT}
 use Rattle.edr_reading.specs.declared.{event.PartEvent.PartEvent, reader.{Refused.Refused, NextRow.NextRow, Reader.Reader}}
 use Rattle.edr_reading.specs.declared.values.{CycleRow.CycleRow, ToldName.ToldName}
-use Rattle.edr_reading.specs.Reading.{HasNoBank, IsNextEvent, event_of, ReportGoesOn, AreReport, IsCycleRow, IsToldName, banks_in, name_words, row_words, IsReport, IsDamaged, IsApplied, IsBank, IsDamagedView, view_words, start_words, IsRecord, AreDistinct, head_row, FieldRows, event_names}
-use Rattle.edr_reading.specs.Reader.{AddsLine, AtLine, HasReadRows, IsBetween, IsOnlyName, IsRefused, MayBegin, MayHaveEvent, MayTell, StandsNext, Takes, TakesLine, cycles_read, last_cycle, may_ack, MayFollow, whole}
+use Rattle.edr_reading.specs.Reading.{HasNoBank, IsNextEvent, event_of, ReportGoesOn, AreReport, IsCycleRow, IsToldName, banks_in, name_words, row_words, IsReport, IsDamaged, IsApplied, IsBank, IsDamagedView, view_words, IsRecord, AreDistinct, head_row, FieldRows}
+use Rattle.edr_reading.specs.Reader.{AtLine, HasReadRows, IsBetween, IsOnlyName, IsRefused, MayBegin, MayHaveEvent, MayTell, StandsNext, Takes, cycles_read, last_cycle, may_ack, MayFollow, whole}
 use Rattle.edr_reading.specs.declared.values.CycleRow.TheVariants as row
 use Rattle.edr_reading.specs.declared.values.ToldName.TheVariants as name
 use Rattle.edr_reading.specs.declared.reader.NextRow.TheVariants as next
 use Rattle.edr_reading.specs.declared.reader.Refused.TheVariants as refused
 use Rattle.edr_reading.proofs.WholeLemmas.{alone, report-told, whole-cycle, whole-damaged, distinct-more}
-use Rattle.edr_reading.proofs.EventLemmas.{AcceptsPlace, first-line, line-last, line-most, line-next}
+use Rattle.edr_reading.proofs.EventLemmas.{AcceptsPlace, event_names, line-alone, first-line, line-last, line-most, line-next}
 use Rattle.edr_reading.proofs.BetweenLemmas.{banks-last, found-last, told-ack, whole-ack, row-more, run-told, started, started-is, opens, only-next, All-last, between-block, between-count, refuse-1, refuse-2, refuse-3, start-between, told-next, ToldNext, next-row, some-rows}
 
 pub stands-as : (n m : NextRow) (last first : Option CycleRow) (reports rs : List Report) (found fs : List Found) (rows : FieldRows) → n ≡ m → last ≡ first → reports ≡ rs → found ≡ fs → StandsNext m first rs fs rows → StandsNext n last reports found rows
@@ -50,12 +48,12 @@ in-between r rows h b = by r.next refl h.stands b
     at-all a c v es ds found at ack cycle event = record { acks = a; cycles = c; events = v; es = es; ds = ds; found = found; at = at; few = few-events r rows es ds h found; has_acks = ack; has_cycles = cycle; has_events = event }
 
     by : (n : NextRow) → r.next ≡ n → StandsNext n r.last (cycles_read r) r.found.items rows → MayBegin n → InBetween r rows
-    by next.Head e s b = absurd b
+    by next.Head e s b = absurd (b.0 refl)
     by next.Run e s b = at-all (may_ack r.last) true true [] [] s.0 s.1 (λ t. (e, t)) (λ t. e) (λ t. (refl, inl e))
     by next.Events e s b = at-all false false true s.0 [] (s.1 ∙ sym (append-nil (map found_event s.0))) s.2 (λ t. cc) (λ t. cc) (λ t. (refl, inr e))
-    by (next.Line k p) e s b = absurd b
+    by (next.Line k p) e s b = absurd (b.1 k p refl)
     by next.Damaged e s b = at-all false false false s.0 s.1 s.2 s.3 (λ t. cc) (λ t. cc) (λ t. cc)
-    by (next.Nothing n) e s b = absurd b
+    by (next.Nothing n) e s b = absurd (b.2 n refl)
 
 -- what a row's name says may be told
 may-tell : {r : Reader} {rows : FieldRows} (m : InBetween r rows) (more : FieldRows) (value : List ℕ) (x : ToldName) → r.rows ≡ length rows → length rows + 1 + length more ≤ 4_294_967_294
@@ -66,14 +64,6 @@ may-tell m more value (name.Bank b) count short t =
     let s = some-rows t.5 in
     (omega (arith, count, short, s), subst (λ (x : List Found). HasNoBank x b) (sym m.found) (alone (map found_event m.es ++ m.ds) b t.3 t.4))
 may-tell m more value name.Count count short t = tt
-
--- some record
-plain : Record
-plain = record {
-  pre = record { key = record { cycle = 1; zero = 1 }; place = place.First; profile = profile.Short; speed = []; throttle = []; brake = []; belt = None; lamp = None };
-  locked = false;
-  crash = None;
-}
 
 module _ (r : Reader) (rows : FieldRows) (w value : List ℕ) (h : HasReadRows r rows) (begins : MayBegin r.next) where
   -- a name that may not be told is refused
@@ -94,12 +84,12 @@ module _ (r : Reader) (rows : FieldRows) (w value : List ℕ) (h : HasReadRows r
       ⊎_elim
       (λ l. other (ap (λ (x : List (List ℕ)). slice_index_or x 0 []) l.3))
       (λ n. let has = m.has_events n.0 in
-      let line = n.5 (n.2, plain) in
+      let line = n.3 n.2 in
       let l = length-append rows (row ∷ g.1) in
       let most = line-most line in
-      let none-here = alone (map found_event m.es ++ m.ds) line.event.0 (map (λ e. e.0) line.events ++ banks_in line.damaged) line.distinct in
+      let none-here = line-alone (map found_event m.es ++ m.ds) line in
       let long : length r.found.items ≡ length m.es = ap length (m.found ∙ ap (λ (x : List Found). map found_event m.es ++ x) has.0 ∙ append-nil (map found_event m.es)) ∙ length-map m.es found_event in
-      never (has.1, omega (arith, h.count, l, (report-told _ g.2).6, most)) line.event.0 line.event_bounds.0 (subst (λ (x : List Found). HasNoBank x line.event.0) (sym m.found) none-here) (n.1 ∙ ap (λ (k : ℕ). decimal (k + 1)) (sym long)))
+      never (has.1, omega (arith, h.count, l, (report-told _ g.2).6, most)) line.event.0 line.bounds.0 (subst (λ (x : List Found). HasNoBank x line.event.0) (sym m.found) none-here) (n.1 ∙ ap (λ (k : ℕ). decimal (k + 1)) (sym long)))
       (next-row row g.1 (m.at.rest (row ∷ g.1) g.2)))
 
 -- ---- rows that are taken
@@ -244,9 +234,9 @@ module _ (r : Reader) (rows : FieldRows) (w value : List ℕ) (h : HasReadRows r
 
 -- where a row with a name may stand, a report goes on with the name
 named-opens : (r : Reader) (rows : FieldRows) (w : List ℕ) (x : ToldName) → HasReadRows r rows → IsOnlyName r w x → ReportGoesOn rows (decimal 0 ∷ w ∷ [])
-named-opens r rows w name.Cycle h o = opens (cycle-stands r rows w (start_words 1) h (row.StartStopped 1) o (omega arith, omega arith) refl same) rows w (start_words 1) refl
+named-opens r rows w name.Cycle h o = opens (cycle-stands r rows w (row_words (row.StartStopped 1)) h (row.StartStopped 1) o (omega arith, omega arith) refl same) rows w (row_words (row.StartStopped 1)) refl
   where
-    same : (d : CycleRow) → IsCycleRow d → start_words 1 ≡ row_words d → false ≡ may_ack (Some d)
+    same : (d : CycleRow) → IsCycleRow d → row_words (row.StartStopped 1) ≡ row_words d → false ≡ may_ack (Some d)
     same (row.StartStopped j) k e = refl
     same (row.Ran n s) k e = absurd (let z : 115 ≡ 110 = ap (λ (l : List ℕ). slice_index_or l 0 0) e in omega (arith, z))
 named-opens r rows w (name.Ack kind tick) h o = opens (ack-stands r rows w (applied_words NotKept) h kind tick NotKept o (inl refl) refl) rows w (applied_words NotKept) refl
@@ -287,55 +277,41 @@ first-at r rows e h m bank free ok = ⊎_elim
         let event : IsNextEvent (map found_event es) e = record { bank = bank; alone = subst (λ (x : List Found). HasNoBank x e.0) found free; record_bounds = ok } in
         record { read = h; events = es; found = found; inside = first-line es e b few event (omega (arith, h.count, m.1)) }
 
-pub line-takes : (k : ℕ) (e : ℕ × Record) (old new : Reader) (row : List (List ℕ)) (res : Result Unit Refused) → TakesLine k e old new row res → ((rows : FieldRows) → HasReadRows old rows → AtLine old k e rows) → Takes old new row res
-line-takes k e old new row (Ok u) t a = λ rows h. t rows (a rows h)
-line-takes k e old new row (Err x) t a = λ rows h. t rows (a rows h)
-
 -- as many events as banks were found
 pub line-long : {r : Reader} {k : ℕ} {e : ℕ × Record} {rows : FieldRows} (a : AtLine r k e rows) → length r.found.items ≡ length a.events
 line-long a = ap length a.found ∙ length-map a.events found_event
 
-module _ (r : Reader) (k : ℕ) (e : ℕ × Record) (b w v : List ℕ) (row-is : b ≡ decimal (length r.found.items + 1)) (named : w ≡ get_or event_names k []) where
-  -- a line is read
-  line-read : (s : Reader) (p : PartEvent) (rows : FieldRows) → AtLine r k e rows → AcceptsPlace k (length r.found.items + 1) r.found.items v e (event_of p) → AddsLine k p r s → HasReadRows s (rows ++ (b ∷ w ∷ v ∷ []) ∷ [])
-  line-read s p rows a t adds = ⊎_elim goes ends (cases_lt (k + 1) 29)
-    where
-      f : ℕ × Record
-      f = event_of p
+-- what an exit by `ok_or(..)?` says
+pub or-err : {A B : Type 0} (o : Option A) (e x : B) → Err x ≡ ok_or o e → o ≡ None → x ≡ e
+or-err None e x is n = cc
+or-err (Some y) e x is n = cc
 
-      at : b ≡ decimal (length a.events + 1)
-      at = row-is ∙ ap (λ (n : ℕ). decimal (n + 1)) (line-long a)
+-- a reader that took a row after such rows took it after others that are such
+pub takes-from : {A B : FieldRows → Type 0} (new : Reader) (row : List (List ℕ)) (res : Result Unit Refused) → Takes A new row res → ((rows : FieldRows) → B rows → A rows) → Takes B new row res
+takes-from new row (Ok u) t a = λ rows h. t rows (a rows h)
+takes-from new row (Err x) t a = λ rows h. t rows (a rows h)
 
-      here : AcceptsPlace k (length a.events + 1) (map found_event a.events) v e f
-      here = subst (λ (x : List Found). AcceptsPlace k (length a.events + 1) x v e f) a.found (subst (λ (j : ℕ). AcceptsPlace k (j + 1) r.found.items v e f) (line-long a) t)
+-- a line is read
+module _ (r : Reader) (k : ℕ) (e : ℕ × Record) (b w v : List ℕ) (row-is : b ≡ decimal (length r.found.items + 1)) (named : w ≡ get_or event_names k [])
+    (p : PartEvent) (t : AcceptsPlace k (length r.found.items + 1) r.found.items v e (event_of p)) (rows : FieldRows) (a : AtLine r k e rows) where
+  at : b ≡ decimal (length a.events + 1)
+  at = row-is ∙ ap (λ (n : ℕ). decimal (n + 1)) (line-long a)
 
-      cycles : cycles_read s ≡ cycles_read r
-      cycles = ap₂ (λ (x y : List Report). x ++ y) (ap (map report_of) adds.run) (ap₂ last_cycle adds.last adds.acks)
+  here : AcceptsPlace k (length a.events + 1) (map found_event a.events) v e (event_of p)
+  here = subst (λ (x : List Found). AcceptsPlace k (length a.events + 1) x v e (event_of p)) a.found (subst (λ (j : ℕ). AcceptsPlace k (j + 1) r.found.items v e (event_of p)) (line-long a) t)
 
-      now : FieldRows
-      now = rows ++ (b ∷ w ∷ v ∷ []) ∷ []
+  long : length (rows ++ (b ∷ w ∷ v ∷ []) ∷ []) ≡ length rows + 1
+  long = length-append rows ((b ∷ w ∷ v ∷ []) ∷ [])
 
-      long : length now ≡ length rows + 1
-      long = length-append rows ((b ∷ w ∷ v ∷ []) ∷ [])
+  -- another one follows
+  pub line-goes : k + 1 < 29 → HasReadRows (record r { next = next.Line (k + 1) p; rows = r.rows + 1 }) (rows ++ (b ∷ w ∷ v ∷ []) ∷ [])
+  line-goes less =
+      let n = line-next a.inside b w v at named (event_of p) here less in
+      read-on _ a.read refl (omega arith) (omega arith) (omega (arith, n.0.short, less, long)) a.read.first (a.events, a.found, n.0, n.1)
 
-      on : length (cycles_read s) + length s.found.items ≤ length (cycles_read r) + length r.found.items + 1 → length rows + 1 ≤ 4_294_967_294 → StandsNext s.next s.last (cycles_read s) s.found.items now → HasReadRows s now
-      on more short stands = read-on (b ∷ w ∷ v ∷ []) a.read adds.count more (omega (arith, ap length adds.acks)) short (λ z. adds.run ∙ a.read.first (sym adds.last ∙ z)) stands
-
-      goes : k + 1 < 29 → HasReadRows s now
-      goes less =
-          let g = adds.goes_on less in
-          let n = line-next a.inside b w v at named f here less in
-          on (omega (arith, ap length cycles, ap length g.0)) (omega (arith, n.0.short, less, long)) (stands-as s.next (next.Line (k + 1) p) s.last s.last (cycles_read s) (cycles_read r) s.found.items r.found.items now g.1 refl cycles g.0 (a.events, a.found, n.0, n.1))
-
-      ends : 29 ≤ k + 1 → HasReadRows s now
-      ends more =
-          let g = adds.ends more in
-          let last : k + 1 ≡ 29 = omega (arith, a.inside.within, more) in
-          let n = line-last a.inside b w v at named f here last in
-          let found-long = length-append r.found.items (found_event f ∷ []) in
-          on (omega (arith, ap length cycles, ap length g.0, found-long)) (omega (arith, n.short, long))
-          (stands-as s.next next.Events s.last s.last (cycles_read s) (cycles_read r) s.found.items (r.found.items ++ found_event f ∷ []) now g.1 refl cycles g.0 (a.events ++ f ∷ [], ap (λ (x : List Found). x ++ found_event f ∷ []) a.found ∙ sym (found-last a.events f), n))
-
-  pub line-result : (s : Reader) (p : PartEvent) (res : Result Unit Refused) → AcceptsPlace k (length r.found.items + 1) r.found.items v e (event_of p) → OnOk res (AddsLine k p r s) → IfErr res (λ x. x ≡ refused.OutOfMemory) → TakesLine k e r s (b ∷ w ∷ v ∷ []) res
-  line-result s p (Ok u) t adds m = λ rows a. line-read s p rows a t adds
-  line-result s p (Err x) t adds m = λ rows a. rw m tt
+  -- it was the last one
+  pub line-ends : (s : Reader) → 29 ≤ k + 1 → s.found.items ≡ r.found.items ++ found_event (event_of p) ∷ [] → HasReadRows (record r { found = s.found; next = next.Events; rows = r.rows + 1 }) (rows ++ (b ∷ w ∷ v ∷ []) ∷ [])
+  line-ends s more is =
+      let n = line-last a.inside b w v at named (event_of p) here (omega (arith, a.inside.within, more)) in
+      read-on _ a.read refl (omega (arith, ap length is, length-append r.found.items (found_event (event_of p) ∷ []))) (omega arith) (omega (arith, n.short, long)) a.read.first
+      (a.events ++ event_of p ∷ [], is ∙ ap (λ (x : List Found). x ++ found_event (event_of p) ∷ []) a.found ∙ sym (found-last a.events (event_of p)), n)

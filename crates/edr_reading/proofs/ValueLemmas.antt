@@ -6,7 +6,7 @@ use Rattle.edr_text.specs.Numbers.{is_digit, is_numeral, numeral, natural_in, be
 use Rattle.edr_text.proofs.{SpellingLemmas.{is_numeral-numeral, decimal-numeral}, ReadingLemmas.{below-numeral, below-spelled}}
 use Rattle.edr_reading.specs.{Answers.{EndsNumber, AreUpTo, IsFromTo, ReadsTwo, two_numbers}, declared.values.CycleRow.CycleRow}
 use Rattle.edr_reading.specs.declared.values.CycleRow.TheVariants.{StartStopped, Ran}
-use Rattle.edr_reading.specs.Reading.{IsDamagedView, view_words, IsStopCall, IsRan, ran_words, start_words, IsCycleRow, row_words}
+use Rattle.edr_reading.specs.Reading.{IsDamagedView, view_words, IsStopCall, IsCycleRow, row_words}
 use Rattle.edr_record.specs.Bounds.{IsUpTo, IsChange}
 use Rattle.edr_report.specs.Words.{firing_words, stop_words, missing_words, damage_words, yes_no, cycle_words, ack_words, kind_word}
 use Rattle.edr_image.specs.declared.{BankView.{BankView, TheVariants.{Damaged, Event, Void}}, Kind.Kind}
@@ -110,10 +110,10 @@ stop-whole bytes r (Some k) other whole h is = ap (option_map Some) (whole k h i
 pub missing-is : (m n : ℕ) → missing_words m n ≡ decimal m ++ (codes " longitudinal, " ++ (decimal n ++ codes " lateral"))
 missing-is m n = simp append_assoc
 
-pub missing-read : (bytes : List ℕ) (high window : ℕ) (r : Option (ℕ × ℕ)) → high ≡ window → ReadsTwo (two_numbers [] (codes " longitudinal, ") (codes " lateral")) (AreUpTo high) bytes r → ReadsTwo missing_words (AreUpTo window) bytes r
+pub missing-read : (bytes : List ℕ) (high window : ℕ) (r : Option (ℕ × ℕ)) → high ≡ window → ReadsTwo (two_numbers (codes " longitudinal, ") (codes " lateral")) (AreUpTo high) bytes r → ReadsTwo missing_words (AreUpTo window) bytes r
 missing-read bytes high window r e h = record { read = by r h.read; whole = λ m n k is. h.whole m n (subst (λ (w : ℕ). AreUpTo w m n) (sym e) k) (is ∙ missing-is m n) }
   where
-    by : (r : Option (ℕ × ℕ)) → IfSome r (λ p. (bytes ≡ two_numbers [] (codes " longitudinal, ") (codes " lateral") p.0 p.1) × AreUpTo high p.0 p.1) → IfSome r (λ p. (bytes ≡ missing_words p.0 p.1) × AreUpTo window p.0 p.1)
+    by : (r : Option (ℕ × ℕ)) → IfSome r (λ p. (bytes ≡ two_numbers (codes " longitudinal, ") (codes " lateral") p.0 p.1) × AreUpTo high p.0 p.1) → IfSome r (λ p. (bytes ≡ missing_words p.0 p.1) × AreUpTo window p.0 p.1)
     by None h = tt
     by (Some p) h = (h.0 ∙ sym (missing-is p.0 p.1), subst (λ (w : ℕ). AreUpTo w p.0 p.1) e h.1)
 
@@ -135,6 +135,16 @@ damaged-read bytes r read (Damaged o x l) h is = read o x l h.0 h.1 (is ∙ dama
 
 -- ---- the rows of block 0
 
+-- how a call is spelled in which a start was stopped, and how the number of a cycle that ran is, with its end
+abbrev pub start_words : ℕ → List ℕ
+start_words call = row_words (StartStopped call)
+
+abbrev pub ran_words : ℕ → List ℕ → List ℕ
+ran_words n more = codes "number " ++ (decimal n ++ more)
+
+pub ran-is : (n : ℕ) (stop : Option ℕ) → row_words (Ran n stop) ≡ ran_words n (codes ", " ++ stop_words stop)
+ran-is n stop = simp append_assoc
+
 -- a value that tells of a stopped start tells of no other cycle
 pub start-whole : (bytes : List ℕ) (call : ℕ) (r : CycleRow) → ((j : ℕ) → IsFromTo 1 6 j → bytes ≡ start_words j → Some call ≡ Some j) → bytes ≡ start_words call → IsCycleRow r → bytes ≡ row_words r
     → Some (StartStopped call) ≡ Some r
@@ -143,10 +153,11 @@ start-whole bytes call (Ran n stop) whole read h is =
     let first : 115 ≡ 110 = ap (λ (l : List ℕ). get_or l 0 0) (sym read ∙ is) in
     absurd (omega (arith, first))
 
--- where the bytes are neither, they tell of no cycle
-pub no-row : (bytes : List ℕ) (r : CycleRow) → ((j : ℕ) → IsFromTo 1 6 j → bytes ≡ start_words j → ⊥) → ((n : ℕ) (s : Option ℕ) → IsRan n s → bytes ≡ ran_words n s → ⊥) → IsCycleRow r → bytes ≡ row_words r → ⊥
-no-row bytes (StartStopped j) start ran h is = start j h is
-no-row bytes (Ran n s) start ran h is = ran n s h is
+-- where the bytes tell of no stopped start, they tell of a cycle that ran
+pub not-start : (bytes : List ℕ) (res : Option CycleRow) → ((j : ℕ) → IsFromTo 1 6 j → bytes ≡ start_words j → ⊥) → ((n : ℕ) (stop : Option ℕ) → IsFromTo 1 4_294_967_295 n → IsStopCall stop → bytes ≡ ran_words n (codes ", " ++ stop_words stop) → res ≡ Some (Ran n stop))
+    → (r : CycleRow) → IsCycleRow r → bytes ≡ row_words r → res ≡ Some r
+not-start bytes res start ran (StartStopped j) h is = absurd (start j h is)
+not-start bytes res start ran (Ran n s) h is = ran n s h.0 h.1 (is ∙ ran-is n s)
 
 all-in : (xs ys : List ℕ) (y : ℕ) → list_all is_digit (xs ++ y ∷ ys) ≡ true → is_digit y ≡ true
 all-in [] ys y h = (first-digit y ys h).0

@@ -1,23 +1,12 @@
 -- What a reader answers: of whole bytes, of numbers and other words in front of some, and of words parted by spaces.
-use Rattle.std.specs.Bool.{MatchBool}
-use Rattle.std.specs.Prelude.{◌≡◌, ℕ, Bool, List, Option, Some, IfSome, MatchOption, ◌≤◌, ◌<◌, ◌^◌, false, ⊤, [], ◌∷◌, ◌++◌, decimal, zero, suc, All, map, length, flat_map}
+use Rattle.std.specs.Prelude.{◌≡◌, ℕ, List, Option, Some, IfSome, MatchOption, ◌≤◌, false, ⊤, [], ◌∷◌, ◌++◌, decimal, zero, suc, All, map, length, flat_map}
 use denote.Ref.{Bor}
 use Rattle.edr_text.specs.Numbers.{is_digit}
 use Rattle.edr_report.specs.Words.{spaced_words}
 
--- ---- what a reader answers: of whole bytes, and of numbers and other words in front of some
-
--- it tells whether this is so
-abbrev pub TellsWhether : Bool → Type 0 → Type 0
-TellsWhether told Is = MatchBool told Is (¬ Is)
-
 -- it read this value, and these bytes are left
 abbrev pub GivesValue : {A : Type 0} → A → List ℕ → Option (A × Bor (List ℕ)) → Type 0
 GivesValue x more read = MatchOption read ⊥ (λ p. (p.0 ≡ x) × (p.1.now ≡ more))
-
--- these bytes are left
-abbrev pub Leaves : List ℕ → Option (Bor (List ℕ)) → Type 0
-Leaves more rest = MatchOption rest ⊥ (λ r. r.now ≡ more)
 
 -- it read a value within its bounds of which the bytes are the words, and reads each such value
 pub record Reads {A : Type 0} (words : A → List ℕ) (ok : A → Type 0) (bytes : List ℕ) (result : Option A) : Type 0 where
@@ -46,27 +35,21 @@ pub record ReadsAfter {A : Type 0} (front : List ℕ) (words : A → List ℕ) (
 abbrev pub ReadsFront : {A : Type 0} → (A → List ℕ) → (A → Type 0) → List ℕ → Option (A × Bor (List ℕ)) → Type 0
 ReadsFront words ok bytes result = ReadsAfter [] words ok bytes result
 
--- a number from low to high, and one of 32 bits
+-- a number from low to high
 abbrev pub IsFromTo : ℕ → ℕ → ℕ → Type 0
 IsFromTo low high n = (low ≤ n) × (n ≤ high)
-
-abbrev pub IsWord : ℕ → Type 0
-IsWord n = n < 2 ^ 32
 
 -- two numbers up to this one
 abbrev pub AreUpTo : ℕ → ℕ → ℕ → Type 0
 AreUpTo high m n = (m ≤ high) × (n ≤ high)
 
--- a number after other bytes, and between some
+-- a number after other bytes
 abbrev pub number_after : List ℕ → ℕ → List ℕ
 number_after front n = front ++ decimal n
 
-abbrev pub number_between : List ℕ → List ℕ → ℕ → List ℕ
-number_between front back n = front ++ (decimal n ++ back)
-
--- two numbers among other bytes
-abbrev pub two_numbers : List ℕ → List ℕ → List ℕ → ℕ → ℕ → List ℕ
-two_numbers front middle back m n = front ++ (decimal m ++ (middle ++ (decimal n ++ back)))
+-- two numbers, with bytes between and after them
+abbrev pub two_numbers : List ℕ → List ℕ → ℕ → ℕ → List ℕ
+two_numbers middle back m n = decimal m ++ (middle ++ (decimal n ++ back))
 
 -- ---- words parted by one space, of which some were taken
 

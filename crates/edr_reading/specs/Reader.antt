@@ -1,13 +1,13 @@
 -- What a reader knows of a report after some of its rows, and why it refuses the next.
 use Rattle.std.specs.List.{IsDistinct}
-use Rattle.std.specs.Prelude.{◌≡◌, ◌<◌, ◌≤◌, ◌+◌, ℕ, ⊤, Bool, true, false, eqb, List, [], ◌∷◌, ◌++◌, All, map, length, take, drop, ◌⊎◌, Option, Some, None, Result, Ok, Err, decimal, slice_index_or, IfOk, IfErr}
+use Rattle.std.specs.Prelude.{◌≡◌, ◌≢◌, ◌<◌, ◌≤◌, ◌+◌, ℕ, ⊤, Bool, true, false, eqb, List, [], ◌∷◌, ◌++◌, All, map, length, take, drop, ◌⊎◌, Option, Some, None, Result, Ok, Err, decimal, slice_index_or}
 use Rattle.edr_record.specs.declared.Record.{Record}
 use Rattle.edr_image.specs.{declared.{Ack.Ack, Found.Found}, Banks.found_event, Reports.{Report, StartStopped, Ran, report_of}}
 use Rattle.edr_report.specs.declared.TheConstants.{LARGEST_SHOWN_COUNT}
 use Rattle.edr_reading.specs.declared.{reader.{NextRow.NextRow, Reader.Reader, Refused.Refused}, values.CycleRow.CycleRow}
 use Rattle.edr_reading.specs.declared.{values.ToldName.ToldName, event.{PartEvent.PartEvent, TheConstants.EVENT_ROWS}}
-use Rattle.edr_reading.specs.declared.reading.{Reading.Reading, ReportRefused.{ReportRefused, TheVariants.{Fault, OutOfMemory}}}
-use Rattle.edr_reading.specs.Reading.{EventAgrees, HasNoBank, IsNextEvent, event_of, AreReport, IsWrong, IsFault, IsAck, IsDamaged, IsEvent, IsReport, IsToldName, ack_fields, banks_in, count_fields, damaged_fields, events_fields, last_rows, name_words, run_fields, AreDistinct, head_row, IsReading, rows_told, FieldRows, event_fields}
+use Rattle.edr_reading.specs.declared.reading.{ReportRefused.{ReportRefused, TheVariants.{Fault, OutOfMemory}}}
+use Rattle.edr_reading.specs.Reading.{EventAgrees, HasNoBank, IsNextEvent, event_of, AreReport, IsWrong, IsFault, IsAck, IsDamaged, IsEvent, IsReport, IsToldName, ack_fields, banks_in, count_fields, damaged_fields, events_fields, last_rows, name_words, run_fields, AreDistinct, head_row, FieldRows, event_fields}
 use Rattle.edr_reading.specs.declared.reading.RowFault.TheVariants as fault
 use Rattle.edr_reading.specs.declared.reader.NextRow.TheVariants as next
 use Rattle.edr_reading.specs.declared.reader.Refused.TheVariants as refused
@@ -47,15 +47,11 @@ pub record MayFollow (has_acks has_cycles has_events : Bool) (cycles block : ℕ
 -- they are so from the line in place k of an event on, of which this was read
 pub record MayFollowLine (k block : ℕ) (banks : List ℕ) (e : ℕ × Record) (rows : FieldRows) : Type 0 where
   pub event : ℕ × Record
-  pub events : List (ℕ × Record)
-  pub damaged : List Found
-  pub count : ℕ
-  pub event_bounds : IsEvent event
-  pub events_bounds : All IsEvent events
-  pub damaged_bounds : All IsDamaged damaged
+  pub bounds : IsEvent event
   pub agrees : EventAgrees k e event
-  pub distinct : IsDistinct eqb (banks ++ (event.0 ∷ (map (λ e. e.0) events ++ banks_in damaged)))
-  pub are : rows ≡ drop k (event_fields block event.0 event.1) ++ (events_fields (block + 1) events ++ last_rows damaged count)
+  pub after : FieldRows
+  pub follow : (cycles : ℕ) → MayFollow false false true cycles (block + 1) (banks ++ event.0 ∷ []) after
+  pub are : rows ≡ drop k (event_fields block event.0 event.1) ++ after
 
 -- ---- a reader
 
@@ -123,21 +119,16 @@ abbrev pub IsRefused : FieldRows → List (List ℕ) → Refused → Type 0
 IsRefused rows row (refused.Field f) = (more : FieldRows) → IsWrong rows (row ∷ more) (fault.Field f)
 IsRefused rows row refused.OutOfMemory = ⊤
 
--- a reader took a row, or refused it as the first with which no report goes on
-abbrev pub Takes : Reader → Reader → List (List ℕ) → Result Unit Refused → Type 0
-Takes old new row (Ok u) = (rows : FieldRows) → HasReadRows old rows → HasReadRows new (rows ++ row ∷ [])
-Takes old new row (Err e) = (rows : FieldRows) → HasReadRows old rows → IsRefused rows row e
+-- a reader that had read such rows took a row, or refused it as the first with which no report goes on
+abbrev pub Takes : (FieldRows → Type 0) → Reader → List (List ℕ) → Result Unit Refused → Type 0
+Takes Had new row (Ok u) = (rows : FieldRows) → Had rows → HasReadRows new (rows ++ row ∷ [])
+Takes Had new row (Err e) = (rows : FieldRows) → Had rows → IsRefused rows row e
 
 -- ---- rows of block 0
 
 -- it is past the head, and not in an event nor at the end
 abbrev pub MayBegin : NextRow → Type 0
-MayBegin next.Head = ⊥
-MayBegin next.Run = ⊤
-MayBegin next.Events = ⊤
-MayBegin (next.Line k e) = ⊥
-MayBegin next.Damaged = ⊤
-MayBegin (next.Nothing n) = ⊥
+MayBegin n = (n ≢ next.Head) × ((k : ℕ) (e : PartEvent) → n ≢ next.Line k e) × ((count : ℕ) → n ≢ next.Nothing count)
 
 -- there is room for one row more and the count
 abbrev pub HasRowsLeft : Reader → Type 0
@@ -160,7 +151,7 @@ pub record IsOnlyName (r : Reader) (w : List ℕ) (x : ToldName) : Type 0 where
 
 -- a row of block 0 with this name and value is taken, or refused
 abbrev pub TakesNamed : ToldName → List ℕ → Reader → Reader → Result Unit Refused → Type 0
-TakesNamed x value old new res = (w : List ℕ) → IsOnlyName old w x → Takes old new (decimal 0 ∷ w ∷ value ∷ []) res
+TakesNamed x value old new res = (w : List ℕ) → IsOnlyName old w x → Takes (HasReadRows old) new (decimal 0 ∷ w ∷ value ∷ []) res
 
 -- ---- rows of an event
 
@@ -175,33 +166,12 @@ pub record AtLine (r : Reader) (k : ℕ) (e : ℕ × Record) (rows : FieldRows) 
   pub found : r.found.items ≡ map found_event events
   pub inside : IsInside k e (cycles_read r) events rows
 
--- it took the row of that line, or refused it
-abbrev pub TakesLine : ℕ → ℕ × Record → Reader → Reader → List (List ℕ) → Result Unit Refused → Type 0
-TakesLine k e old new row (Ok u) = (rows : FieldRows) → AtLine old k e rows → HasReadRows new (rows ++ row ∷ [])
-TakesLine k e old new row (Err e2) = (rows : FieldRows) → AtLine old k e rows → IsRefused rows row e2
-
--- this was read with the line in this place of an event
-pub record AddsLine (k : ℕ) (e : PartEvent) (old new : Reader) : Type 0 where
-  pub count : new.rows ≡ old.rows + 1
-  pub run : new.run.items ≡ old.run.items
-  pub last : new.last ≡ old.last
-  pub acks : new.acks.items ≡ old.acks.items
-  pub goes_on : k + 1 < EVENT_ROWS → (new.found.items ≡ old.found.items) × (new.next ≡ next.Line (k + 1) e)
-  pub ends : EVENT_ROWS ≤ k + 1 → (new.found.items ≡ old.found.items ++ found_event (event_of e) ∷ []) × (new.next ≡ next.Events)
-
 -- ---- the rows of a text
 
 -- the fault is that of these records
 abbrev pub IsRowRefusal : FieldRows → ReportRefused → Type 0
 IsRowRefusal records (Fault row fault) = IsFault records row fault
 IsRowRefusal records OutOfMemory = ⊤
-
--- what these rows tell was read, or the fault is theirs
-pub record ReadsRows (rows : FieldRows) (result : Result Reading ReportRefused) : Type 0 where
-  pub read : IfOk result (λ r. rows ≡ rows_told r)
-  pub told : IfOk result (λ r. IsReading (map report_of r.run.items) r.found.items r.count)
-  pub count : IfOk result (λ r. r.count ≤ LARGEST_SHOWN_COUNT)
-  pub fault : IfErr result (IsRowRefusal rows)
 
 -- the fault is that of its records
 abbrev pub IsRefusalOfRecords : List ℕ → ReportRefused → Type 0

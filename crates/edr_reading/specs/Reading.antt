@@ -5,10 +5,10 @@ use Rattle.edr_record.specs.declared.{Record.Record, Place.Place, Profile.Profil
 use Rattle.edr_record.specs.{Bounds.{IsPlace, IsPre, IsCrash, IsUpTo, slots_in}, Parts.{PrePart, CrashPart}}
 use Rattle.edr_record.specs.{Fields.{profile_of_slots, speed_of, throttle_of, brake_of}, Complete.is_complete}
 use Rattle.edr_report.specs.Report.{event_lines, ack_line, run_lines, events_lines, report_lines}
-use Rattle.edr_report.specs.declared.event_lines.{TheConstants.LINES_OF_EVENT, PreLine.PreLine, CrashLine.CrashLine}
+use Rattle.edr_report.specs.declared.event_lines.{PreLine.PreLine, CrashLine.CrashLine}
 use Rattle.edr_report.specs.declared.event_lines.EventLine.{EventLine, TheVariants.{Number, Bank, Before, After, Complete}}
 use Rattle.edr_report.specs.{Lines.{Line, line}, EventWords.{crash_words, place_of, pre_words, event_words}}
-use Rattle.edr_report.specs.Words.{damage_words, kind_word, stop_words, events_in_crash, time_between, ack_words, bank_words, cycle_words, shown_count, none_word, firing_words, yes_no}
+use Rattle.edr_report.specs.Words.{damage_words, stop_words, events_in_crash, time_between, ack_words, bank_words, cycle_words, shown_count, none_word, firing_words, yes_no}
 use Rattle.edr_report.specs.declared.event_lines.PreLine.TheVariants as pre
 use Rattle.edr_report.specs.declared.event_lines.CrashLine.TheVariants as crash
 use Rattle.edr_reading.specs.declared.reading.{ReportRow.ReportRow, Reading.Reading, RowFault.RowFault}
@@ -38,8 +38,6 @@ FieldRows = List (List (List ℕ))
 abbrev pub Texts : Type 0
 Texts = List (List ℕ)
 
--- ---- the rows of an event
-
 -- the fields of the row of a line
 abbrev pub line_fields : Line → List (List ℕ)
 line_fields l = decimal l.block ∷ l.name ∷ l.value ∷ []
@@ -47,10 +45,6 @@ line_fields l = decimal l.block ∷ l.name ∷ l.value ∷ []
 -- the rows of an event
 abbrev pub event_fields : ℕ → ℕ → Record → List (List (List ℕ))
 event_fields block b r = map line_fields (event_lines block b r)
-
--- the names of its lines
-abbrev pub event_names : Texts
-event_names = map (λ l. l.0.now) LINES_OF_EVENT
 
 -- ---- which values a report may show, where the parts of a record don't say it
 
@@ -60,11 +54,7 @@ IsBank b = (1 ≤ b) × (b ≤ MOST_BANKS)
 
 -- the changing call in which a cycle was stopped, if it was
 abbrev pub IsStopCall : Option ℕ → Type 0
-IsStopCall s = IfSome s (λ call. (1 ≤ call) × (call ≤ 4_294_967_295))
-
--- the number of a cycle that ran, and where it was stopped
-abbrev pub IsRan : ℕ → Option ℕ → Type 0
-IsRan n stop = (1 ≤ n) × (n ≤ 4_294_967_295) × IsStopCall stop
+IsStopCall s = IfSome s (IsFromTo 1 4_294_967_295)
 
 -- a place in a crash that has as many events as the crash of this one
 abbrev pub IsPlaceLike : Place → Place → Type 0
@@ -101,37 +91,19 @@ view_words Void = []
 view_words (Event r) = []
 view_words (Damaged o x l) = damage_words o x l
 
--- how a call is spelled in which a start was stopped
-abbrev pub start_words : ℕ → List ℕ
-start_words call = codes "start stopped in call " ++ decimal call
-
--- how the end of a cycle is, after its number
-abbrev pub end_words : Option ℕ → List ℕ
-end_words stop = codes ", " ++ stop_words stop
-
--- how the number of a cycle and its end are spelled
-abbrev pub ran_words : ℕ → Option ℕ → List ℕ
-ran_words n stop = codes "number " ++ decimal n ++ codes ", " ++ stop_words stop
-
--- how a command and its time are, after the cycle
-abbrev pub command_words : Kind → ℕ → List ℕ
-command_words k t = codes " " ++ kind_word k ++ codes " at " ++ decimal t
-
--- ---- rows of block 0
-
 -- the bounds of an acknowledged command
 abbrev pub IsAck : Ack → Type 0
 IsAck a = IsTick a.tick × IsApplied a.kind a.applied
 
 -- what the first line of a cycle shows, which is its only one if its start was stopped
 abbrev pub row_words : CycleRow → List ℕ
-row_words (row.StartStopped j) = start_words j
-row_words (row.Ran n stop) = ran_words n stop
+row_words (row.StartStopped j) = codes "start stopped in call " ++ decimal j
+row_words (row.Ran n stop) = codes "number " ++ decimal n ++ codes ", " ++ stop_words stop
 
 -- its bounds
 abbrev pub IsCycleRow : CycleRow → Type 0
 IsCycleRow (row.StartStopped j) = IsFromTo 1 6 j
-IsCycleRow (row.Ran n stop) = IsRan n stop
+IsCycleRow (row.Ran n stop) = IsFromTo 1 4_294_967_295 n × IsStopCall stop
 
 -- a name of block 0, where so many cycles were told before
 abbrev pub name_words : ℕ → ToldName → List ℕ
@@ -308,12 +280,6 @@ AcceptsCrashLine l value old result = AcceptsLine (λ c. c) IsCrash (λ c. crash
 abbrev pub AcceptsPartLine : CrashLine → List ℕ → Option CrashPart → Option (Option CrashPart) → Type 0
 AcceptsPartLine l value old result = AcceptsLine (λ c. c) (λ c. IfSome c IsCrash) crash_texts PartsAgree (λ c. part_words c l) (crash_place l) value old result
 
--- the line of its end begins it, or says that it is absent
-pub record BeginsPart (value : List ℕ) (result : Option (Option CrashPart)) : Type 0 where
-  pub bounds : IfSome result (λ c. IfSome c IsCrash)
-  pub shows : IfSome result (λ c. value ≡ part_words c crash.End)
-  pub whole : (d : Option CrashPart) → IfSome d IsCrash → value ≡ part_words d crash.End → MatchOption result ⊥ (λ c. PartsAgree 1 c d)
-
 -- ---- an event of which the first lines were read
 
 -- the event of what was read so far
@@ -405,9 +371,7 @@ abbrev pub IsWrong : List (List (List ℕ)) → List (List (List ℕ)) → RowFa
 IsWrong rows [] Unended = ¬ AreReport rows
 IsWrong rows (r ∷ records) (Fields n) = (n ≡ min (length r) 4_294_967_295) × (length r ≢ 3)
 IsWrong rows (r ∷ records) (Field f) = (length r ≡ 3) × (1 ≤ f) × (f ≤ 3) × (2 ≤ f → ReportGoesOn rows (take (f - 1) r)) × ¬ ReportGoesOn rows (take f r)
-IsWrong rows [] (Fields n) = ⊥
-IsWrong rows [] (Field f) = ⊥
-IsWrong rows (r ∷ records) Unended = ⊥
+IsWrong rows records fault = ⊥
 
 -- the records can be no report from this row on, counted from 1: those before it are the beginning of one
 abbrev pub IsFault : List (List (List ℕ)) → ℕ → RowFault → Type 0

@@ -2,22 +2,22 @@
 
 ghost use Rattle.std.specs.{Prelude.{◌≡◌, ◌<◌, [], ⊤, length, map, slice_index_or, IfSome, MatchOption, ◌≤◌}, Bool.MatchBool};
 ghost use Rattle.edr_reading.specs.Answers.{Reads};
-ghost use Rattle.edr_reading.specs.Reading.{HasNoBank, IsNextEvent, event_of, HasNoneFree, AcceptsEventLine, IsBank, AreSlots, AcceptsPreLine, BeginsPart, AcceptsCrashLine, AcceptsPartLine};
+ghost use Rattle.edr_reading.specs.Reading.{HasNoBank, IsNextEvent, event_of, HasNoneFree, AcceptsEventLine, IsBank, AreSlots, AcceptsPreLine, AcceptsCrashLine, AcceptsPartLine};
 ghost use Rattle.edr_record.specs.Bounds.{IsPre, ArePoints, IsCrash, point_count};
 ghost use Rattle.edr_record.specs.declared.TheConstants.{EARLIEST_END, POINTS, RESET};
 ghost use Rattle.edr_report.specs.Words.{points_words};
 
 use crate::front::{is_word, last_within};
 use crate::values::{
-    bank_after, count, decision, end_time, events, extreme, firing, missing, place_between,
-    profile, read_slots, switch, time,
+    bank_after, count, decision, events, extreme, firing, missing, place_between, profile,
+    read_slots, switch, time,
 };
 use edr_image::Found;
 use edr_image::places::MOST_BANKS;
 use edr_items::LATEST_MOMENT;
 use edr_record::{
-    Crash, Extreme, Key, LONG_SLOTS, POINTS, Place, Pre, Profile, Record, SHORT_SLOTS, Slots,
-    point_count, window_from_end,
+    Crash, EARLIEST_END, Extreme, Key, LONG_SLOTS, POINTS, Place, Pre, Profile, RESET, Record,
+    SHORT_SLOTS, Slots, point_count, window_from_end,
 };
 use edr_report::{CrashLine, EventLine, LINES_OF_EVENT, PreLine};
 
@@ -210,7 +210,9 @@ fn crash_line(crash: &Crash, line: CrashLine, value: &[u8]) -> Option<Crash>
     let window = window_from_end(end);
     let mut read = *crash;
     match line {
-        CrashLine::End => read = plain_crash(end_time(value)?),
+        CrashLine::End => {
+            read = plain_crash(time(value, EARLIEST_END.into(), RESET.into())? as u16);
+        }
         CrashLine::Along => read.along = points(value, end)?,
         CrashLine::Across => read.across = points(value, end)?,
         CrashLine::MaxAlong => read.max_along = extreme(value, window)?,
@@ -228,17 +230,6 @@ fn crash_line(crash: &Crash, line: CrashLine, value: &[u8]) -> Option<Crash>
     Some(read)
 }
 
-// The crash part that the line of its end begins, or that there is none.
-fn end_line(value: &[u8]) -> Option<Option<Crash>>
-    ensures { BeginsPart value.now result }
-{
-    if is_word(value, b"none") {
-        return Some(None);
-    }
-    let end = end_time(value)?;
-    Some(Some(plain_crash(end)))
-}
-
 /// What came after time zero, or that nothing did, with what this line shows, if it may show it.
 pub(crate) fn part_line(
     crash: &Option<Crash>,
@@ -248,15 +239,11 @@ pub(crate) fn part_line(
     requires { IfSome crash.now IsCrash }
     ensures { AcceptsPartLine line value.now crash.now result }
 {
-    if let CrashLine::End = line {
-        return end_line(value);
-    }
+    let is_end = matches!(line, CrashLine::End);
     match crash {
-        Some(crash) => {
-            let crash = crash_line(crash, line, value)?;
-            Some(Some(crash))
-        }
-        None if is_word(value, b"none") => Some(None),
-        None => None,
+        Some(crash) if !is_end => Some(Some(crash_line(crash, line, value)?)),
+        _ if is_word(value, b"none") => Some(None),
+        _ if is_end => Some(Some(crash_line(&plain_crash(EARLIEST_END), line, value)?)),
+        _ => None,
     }
 }

@@ -1,10 +1,10 @@
 //! A reader of rows: what it knows after those that it has read.
 
-ghost use Rattle.std.specs.Prelude.{◌≡◌, ◌≢◌, ◌+◌, ◌<◌, ◌^◌, [], None, ⊤, IfErr, IfOk, IfSome, MatchOption, OnOk, decimal, length, map};
+ghost use Rattle.std.specs.Prelude.{◌≡◌, ◌≢◌, ◌+◌, ◌<◌, ◌^◌, [], None, ⊤, IfErr, IfOk, IfSome, MatchBool, MatchOption, OnOk, decimal, length, map};
 ghost use Rattle.edr_image.specs.Reports.{report_of};
-ghost use Rattle.edr_reading.specs.{Answers.TellsWhether, declared.event.TheConstants.EVENT_ROWS};
+ghost use Rattle.edr_reading.specs.declared.event.TheConstants.{EVENT_ROWS};
 ghost use Rattle.edr_reading.specs.Reading.{event_of, HasNoBank, HasNoneFree, IsBank, IsRecord, FieldRows, fields};
-ghost use Rattle.edr_reading.specs.Reader.{AddsLine, AtLine, HasReadRows, MayBegin, MayHaveEvent, MayTell, Takes, TakesLine, TakesNamed, cycles_read, may_ack};
+ghost use Rattle.edr_reading.specs.Reader.{AtLine, HasReadRows, MayBegin, MayHaveEvent, MayTell, Takes, TakesNamed, cycles_read, may_ack};
 ghost use Rattle.edr_reading.specs.declared.values.ToldName.TheVariants as name;
 
 use crate::event::{EVENT_ROWS, PartEvent, event_line, free_bank, is_among, line_at, plain_pre};
@@ -128,36 +128,24 @@ impl Reader {
 
     // A row of block 0 with this name may be next.
     fn may_tell(&self, name: ToldName) -> bool
-        ensures { TellsWhether result (MayTell self.now name) }
+        ensures { MatchBool result (MayTell self.now name) (¬ MayTell self.now name) }
     {
         let has_room = self.rows < MOST_ROWS - 1;
+        let may_tell_cycle = has_room && matches!(&self.next, NextRow::Run);
         match name {
-            ToldName::Cycle => has_room && self.is_in_run(),
-            ToldName::Ack { .. } => has_room && self.is_in_run() && self.may_ack(),
+            ToldName::Cycle => may_tell_cycle,
+            ToldName::Ack { .. } => may_tell_cycle
+                && matches!(&self.last, Some(CycleRow::Ran { .. })),
             ToldName::Bank { bank } => has_room && !is_among(&self.found, bank),
             ToldName::Count => true,
         }
-    }
-
-    // A cycle may be next.
-    fn is_in_run(&self) -> bool
-        ensures { TellsWhether result (self.now.next ≡ NextRow.Run) }
-    {
-        matches!(&self.next, NextRow::Run)
-    }
-
-    // A command of the last cycle may be next, as long as another cycle may.
-    fn may_ack(&self) -> bool
-        ensures { result ≡ may_ack self.now.last }
-    {
-        matches!(&self.last, Some(CycleRow::Ran { .. }))
     }
 
     // Takes the row that names the columns.
     fn take_head(&mut self, row: &ReportRow<'_>) -> Result<(), Refused>
         requires rows { self.old.rows + 1 < 2 ^ 32 }
         requires head { self.old.next ≡ NextRow.Head }
-        ensures { Takes self.old self.new (fields row.now) result }
+        ensures { Takes (HasReadRows self.old) self.new (fields row.now) result }
     {
         if !is_word(row.block, b"block") {
             return Err(Refused::Field(1));
@@ -173,71 +161,42 @@ impl Reader {
         Ok(())
     }
 
-    // Takes the first row of a cycle.
-    fn take_cycle(&mut self, alloc: Global, value: &[u8]) -> Result<(), Refused>
+    // Takes a row of block 0 with this name.
+    fn take_named(&mut self, alloc: Global, name: ToldName, value: &[u8]) -> Result<(), Refused>
         requires acks { length self.old.acks.items < 2 ^ 32 }
         requires rows { self.old.rows + 1 < 2 ^ 32 }
-        ensures { TakesNamed name.Cycle value.now self.old self.new result }
+        ensures { TakesNamed name value.now self.old self.new result }
     {
-        let Some(first) = cycle_value(value) else {
-            return Err(Refused::Field(3));
-        };
-        let Ok(()) = self.end_cycle(alloc) else {
-            return Err(Refused::OutOfMemory);
-        };
-        self.last = Some(first);
-        self.rows += 1;
-        Ok(())
-    }
-
-    // Takes the row of a command that the last cycle acknowledged.
-    fn take_ack(&mut self, kind: Kind, tick: u32, value: &[u8]) -> Result<(), Refused>
-        requires { self.old.rows + 1 < 2 ^ 32 }
-        ensures { TakesNamed (name.Ack kind tick) value.now self.old self.new result }
-    {
-        let Some(applied) = answer(value, kind) else {
-            return Err(Refused::Field(3));
-        };
-        let ack = Ack {
-            tick,
-            kind,
-            applied,
-        };
-        let Ok(()) = self.acks.push(ack) else {
-            return Err(Refused::OutOfMemory);
-        };
-        self.rows += 1;
-        Ok(())
-    }
-
-    // Takes the row of a damaged bank.
-    fn take_damaged(&mut self, bank: u8, value: &[u8]) -> Result<(), Refused>
-        requires { self.old.rows + 1 < 2 ^ 32 }
-        ensures { TakesNamed (name.Bank bank) value.now self.old self.new result }
-    {
-        let Some(view) = damage(value) else {
-            return Err(Refused::Field(3));
-        };
-        // The prover learns here of the types of what a bank may hold.
-        let _record: Option<Record> = None;
-        let _crash: Option<Crash> = None;
-        let Ok(()) = self.found.push(Found { bank, view }) else {
-            return Err(Refused::OutOfMemory);
-        };
-        self.next = NextRow::Damaged;
-        self.rows += 1;
-        Ok(())
-    }
-
-    // Takes the row of the count.
-    fn take_count(&mut self, value: &[u8]) -> Result<(), Refused>
-        requires { self.old.rows + 1 < 2 ^ 32 }
-        ensures { TakesNamed name.Count value.now self.old self.new result }
-    {
-        let Some(count) = count(value, 0) else {
-            return Err(Refused::Field(3));
-        };
-        self.next = NextRow::Nothing { count };
+        match name {
+            ToldName::Cycle => {
+                let first = cycle_value(value).ok_or(Refused::Field(3))?;
+                self.end_cycle(alloc).or(Err(Refused::OutOfMemory))?;
+                self.last = Some(first);
+            }
+            ToldName::Ack { kind, tick } => {
+                let applied = answer(value, kind).ok_or(Refused::Field(3))?;
+                let ack = Ack {
+                    tick,
+                    kind,
+                    applied,
+                };
+                self.acks.push(ack).or(Err(Refused::OutOfMemory))?;
+            }
+            ToldName::Bank { bank } => {
+                let view = damage(value).ok_or(Refused::Field(3))?;
+                // The prover learns here of the types of what a bank may hold.
+                let _record: Option<Record> = None;
+                let _crash: Option<Crash> = None;
+                self.found
+                    .push(Found { bank, view })
+                    .or(Err(Refused::OutOfMemory))?;
+                self.next = NextRow::Damaged;
+            }
+            ToldName::Count => {
+                let count = count(value, 0).ok_or(Refused::Field(3))?;
+                self.next = NextRow::Nothing { count };
+            }
+        }
         self.rows += 1;
         Ok(())
     }
@@ -247,15 +206,10 @@ impl Reader {
         requires read { (rows : FieldRows) × HasReadRows self.old rows }
         requires between { MayBegin self.old.next }
         requires block { row.now.block.now ≡ decimal 0 }
-        ensures { Takes self.old self.new (fields row.now) result }
+        ensures { Takes (HasReadRows self.old) self.new (fields row.now) result }
     {
         match told_name(row.name, self.cycles()) {
-            Some(name) if self.may_tell(name) => match name {
-                ToldName::Cycle => self.take_cycle(alloc, row.value),
-                ToldName::Ack { kind, tick } => self.take_ack(kind, tick, row.value),
-                ToldName::Bank { bank } => self.take_damaged(bank, row.value),
-                ToldName::Count => self.take_count(row.value),
-            },
+            Some(name) if self.may_tell(name) => self.take_named(alloc, name, row.value),
             _ => Err(Refused::Field(2)),
         }
     }
@@ -291,43 +245,27 @@ impl Reader {
     ) -> Result<(), Refused>
         requires read { (rows : FieldRows) × AtLine self.old line (event_of event.now) rows }
         requires block { row.now.block.now ≡ decimal (length self.old.found.items + 1) }
-        ensures { TakesLine line (event_of event.now) self.old self.new (fields row.now) result }
+        ensures { Takes (AtLine self.old line (event_of event.now)) self.new (fields row.now) result }
     {
         let (name, what) = line_at(&LINES_OF_EVENT, line);
         if !is_word(row.name, name.as_bytes()) {
             return Err(Refused::Field(2));
         }
-        let Some(event) = event_line(event, self.block(), &self.found, what, row.value) else {
-            return Err(Refused::Field(3));
-        };
-        self.add_line(line, event)
-    }
-
-    // Goes on after the line in this place, with which this was read.
-    fn add_line(&mut self, line: usize, event: PartEvent) -> Result<(), Refused>
-        requires line { line < EVENT_ROWS }
-        requires rows { self.old.rows + 1 < 2 ^ 32 }
-        requires record { IsRecord event.record }
-        ensures added { OnOk result (AddsLine line event self.old self.new) }
-        ensures memory { IfErr result (λ e. e ≡ Refused.OutOfMemory) }
-    {
-        self.rows += 1;
+        let event = event_line(event, self.block(), &self.found, what, row.value).ok_or(
+            Refused::Field(3),
+        )?;
         if line + 1 < EVENT_ROWS {
-            self.next = NextRow::Line {
-                line: line + 1,
-                event,
-            };
-            return Ok(());
+            let line = line + 1;
+            self.next = NextRow::Line { line, event };
+        } else {
+            let PartEvent { bank, record } = event;
+            let view = BankView::Event(record);
+            self.found
+                .push(Found { bank, view })
+                .or(Err(Refused::OutOfMemory))?;
+            self.next = NextRow::Events;
         }
-        let view = BankView::Event(event.record);
-        let Ok(()) = self.found.push(Found {
-            bank: event.bank,
-            view,
-        })
-        else {
-            return Err(Refused::OutOfMemory);
-        };
-        self.next = NextRow::Events;
+        self.rows += 1;
         Ok(())
     }
 
@@ -336,15 +274,11 @@ impl Reader {
         requires read { (rows : FieldRows) × HasReadRows self.old rows }
         requires between { MayBegin self.old.next }
         requires block { row.now.block.now ≢ decimal 0 }
-        ensures { Takes self.old self.new (fields row.now) result }
+        ensures { Takes (HasReadRows self.old) self.new (fields row.now) result }
     {
-        let Some(bank) = self.bank_of_next() else {
-            return Err(Refused::Field(1));
-        };
+        let bank = self.bank_of_next().ok_or(Refused::Field(1))?;
         let block = self.block();
-        let Some(_) = last_within(row.block, b"", block, block) else {
-            return Err(Refused::Field(1));
-        };
+        last_within(row.block, b"", block, block).ok_or(Refused::Field(1))?;
         let record = Record {
             pre: plain_pre(),
             locked: false,
@@ -356,15 +290,13 @@ impl Reader {
     /// Takes one row more, or answers the first of its fields with which no report goes on.
     pub(crate) fn take(&mut self, alloc: Global, row: &ReportRow<'_>) -> Result<(), Refused>
         requires { (rows : FieldRows) × HasReadRows self.old rows }
-        ensures { Takes self.old self.new (fields row.now) result }
+        ensures { Takes (HasReadRows self.old) self.new (fields row.now) result }
     {
         match self.next {
             NextRow::Head => self.take_head(row),
             NextRow::Line { line, event } => {
                 let block = self.block();
-                let Some(_) = last_within(row.block, b"", block, block) else {
-                    return Err(Refused::Field(1));
-                };
+                last_within(row.block, b"", block, block).ok_or(Refused::Field(1))?;
                 self.take_line(line, &event, row)
             }
             NextRow::Nothing { .. } => Err(Refused::Field(1)),

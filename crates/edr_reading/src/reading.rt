@@ -5,8 +5,8 @@ ghost use Rattle.csv.specs.Records.{fields_of, field_at};
 ghost use Rattle.edr_image.specs.Reports.{report_of};
 ghost use Rattle.edr_report.specs.declared.TheConstants.{LARGEST_SHOWN_COUNT};
 ghost use Rattle.edr_spell.specs.Spell.{RecordsOf};
-ghost use Rattle.edr_reading.specs.Reader.{HasReadRows, IsRefusalOfRecords, IsRowRefusal, ReadsRows};
-ghost use Rattle.edr_reading.specs.Reading.{IsReading, OfReportRows, rows_told, FieldRows, fields};
+ghost use Rattle.edr_reading.specs.Reader.{HasReadRows, IsRefusalOfRecords, IsRowRefusal};
+ghost use Rattle.edr_reading.specs.Reading.{IsReading, OfReportRows, rows_told, fields};
 
 use crate::reader::{NextRow, Reader, Refused};
 use csv::{ByteRecord, ReaderBuilder};
@@ -67,27 +67,6 @@ fn read_rows(alloc: Global, records: &[ByteRecord]) -> Result<Reader, ReportRefu
     Ok(reader)
 }
 
-// What a reader has read of which these were all rows.
-fn end(alloc: Global, mut reader: Reader) -> Result<Reading, ReportRefused>
-    requires { (rows : FieldRows) × HasReadRows reader rows }
-    ensures { (rows : FieldRows) → HasReadRows reader rows → ReadsRows rows result }
-{
-    let NextRow::Nothing { count } = reader.next else {
-        return Err(ReportRefused::Fault {
-            row: reader.rows + 1,
-            fault: RowFault::Unended,
-        });
-    };
-    let Ok(()) = reader.end_cycle(alloc) else {
-        return Err(ReportRefused::OutOfMemory);
-    };
-    Ok(Reading {
-        run: reader.run,
-        found: reader.found,
-        count,
-    })
-}
-
 /// Reads the table of a report back. What is read has exactly the rows that the text has: the cycles, each event with all
 /// its elements, the damaged banks and the count. A text is refused only where it has the rows of no report: a bank told
 /// twice, a row left out or one too many, a value that can't be. What a report shows and doesn't tell exactly is read as
@@ -105,10 +84,20 @@ pub fn read(alloc: Global, bytes: &[u8]) -> Result<Reading, ReportRefused>
         OfReportRows (RecordsOf bytes.now) (e ≡ ReportRefused.OutOfMemory)) }
     ensures fault { IfErr result (IsRefusalOfRecords bytes.now) }
 {
-    let Ok(records) = records(alloc, bytes) else {
-        return Err(ReportRefused::OutOfMemory);
+    let records = records(alloc, bytes).or(Err(ReportRefused::OutOfMemory))?;
+    let mut reader = read_rows(alloc, &records)?;
+    let NextRow::Nothing { count } = reader.next else {
+        return Err(ReportRefused::Fault {
+            row: reader.rows + 1,
+            fault: RowFault::Unended,
+        });
     };
-    end(alloc, read_rows(alloc, &records)?)
+    reader.end_cycle(alloc).or(Err(ReportRefused::OutOfMemory))?;
+    Ok(Reading {
+        run: reader.run,
+        found: reader.found,
+        count,
+    })
 }
 
 /// A row of a report: the number of its block, a name and a value.
@@ -136,17 +125,6 @@ pub(crate) fn records(alloc: Global, bytes: &[u8]) -> Result<Vec<ByteRecord>, cs
     Ok(records)
 }
 
-// The field in a place that the record has.
-fn field(fields: &ByteRecord, place: usize) -> &[u8]
-    requires { place < length (fields_of fields.now) }
-    ensures { Some result.now ≡ field_at (fields_of fields.now) place }
-{
-    match fields.get(place) {
-        Some(field) => field,
-        None => unreachable!(),
-    }
-}
-
 /// The row of a record, if it has three fields.
 pub(crate) fn row_of(found: &ByteRecord) -> Option<ReportRow<'_>>
     ensures { MatchOption result (length (fields_of found.now) ≢ 3) (λ r. fields r ≡ fields_of found.now) }
@@ -155,8 +133,8 @@ pub(crate) fn row_of(found: &ByteRecord) -> Option<ReportRow<'_>>
         return None;
     }
     Some(ReportRow {
-        block: field(found, 0),
-        name: field(found, 1),
-        value: field(found, 2),
+        block: found.get(0)?,
+        name: found.get(1)?,
+        value: found.get(2)?,
     })
 }

@@ -1,13 +1,13 @@
 //! The values of a report, read back.
 
 ghost use Rattle.std.specs.Fmt.{signed_decimal};
-ghost use Rattle.std.specs.Prelude.{◌≡◌, ◌≤◌, ◌∷◌, ◌++◌, ◌+◌, List, decimal, negsuc, ⊤, ℕ, Some, IfSome, MatchOption, ◌<◌, ◌^◌};
+ghost use Rattle.std.specs.Prelude.{◌≡◌, ◌≤◌, ◌∷◌, ◌++◌, ◌+◌, List, decimal, negsuc, ⊤, ℕ, Some, IfSome, MatchOption, codes, ◌<◌, ◌^◌};
 ghost use Rattle.edr_record.specs.declared.TheConstants.{EARLIEST_END, GREATEST_CHANGE, RESET};
 ghost use Rattle.edr_record.specs.Bounds.{IsChange, IsExtreme, IsPlace, IsUpTo};
 ghost use Rattle.edr_report.specs.declared.TheConstants.{LARGEST_SHOWN_COUNT};
-ghost use Rattle.edr_report.specs.Words.{applied_words, yes_no, profile_word, switch_or_none, milliseconds, firing_words, number_shown, shown_count, events_in_crash, extreme_words, missing_words, ack_words, seconds, tenths_of, number_or_none};
+ghost use Rattle.edr_report.specs.Words.{applied_words, yes_no, profile_word, switch_or_none, milliseconds, firing_words, number_shown, shown_count, events_in_crash, extreme_words, missing_words, ack_words, seconds, number_or_none, stop_words};
 ghost use Rattle.edr_reading.specs.Answers.{AreUpTo, EndsNumber, GivesValue, IsFromTo, Reads, ReadsFront, ReadsTwo, number_after, ReadsAfter, space_at, ReadsSlots};
-ghost use Rattle.edr_reading.specs.Reading.{IsBank, IsStopCall, IsApplied, IsTick, done_in, command_words, ran_words, IsPlaceLike, IsRan, ReadsPlace, IsDamagedView, end_words, view_words, IsCycleRow, IsToldName, name_words, row_words};
+ghost use Rattle.edr_reading.specs.Reading.{IsBank, IsStopCall, IsApplied, IsTick, done_in, IsPlaceLike, ReadsPlace, IsDamagedView, view_words, IsCycleRow, IsToldName, name_words, row_words};
 
 use crate::front::{after, is_word, last_within, two_within, within, within_after};
 use edr_image::places::{BANK_SIZE, MOST_BANKS};
@@ -39,14 +39,6 @@ pub(crate) fn time(bytes: &[u8], low: u32, high: u32) -> Option<u32>
     ensures { Reads milliseconds (IsFromTo low high) bytes.now result }
 {
     within(bytes, b"", b" ms", low, high)
-}
-
-/// How long after its time zero an event ended.
-pub(crate) fn end_time(bytes: &[u8]) -> Option<u16>
-    ensures { Reads milliseconds (IsFromTo EARLIEST_END RESET) bytes.now result }
-{
-    let end = time(bytes, u32::from(EARLIEST_END), u32::from(RESET))?;
-    Some(end as u16)
 }
 
 /// `yes` or `no`.
@@ -130,32 +122,17 @@ pub(crate) fn extreme(bytes: &[u8], window: u16) -> Option<Extreme>
 pub(crate) fn missing(bytes: &[u8], window: u16) -> Option<(u32, u32)>
     ensures { ReadsTwo missing_words (AreUpTo window) bytes.now result }
 {
-    two_within(
-        bytes,
-        b"",
-        b" longitudinal, ",
-        b" lateral",
-        u32::from(window),
-    )
+    let high = u32::from(window);
+    two_within(bytes, b" longitudinal, ", b" lateral", high)
 }
 
 // Tenths of a second, up to 5 s.
 fn tenths(bytes: &[u8]) -> Option<u32>
     ensures { Reads seconds (IsFromTo 0 50) bytes.now result }
 {
-    match two_within(bytes, b"", b".", b" s", 9) {
-        Some((whole, tenth)) if 10 * whole + tenth <= 50 => Some(10 * whole + tenth),
-        _ => None,
-    }
-}
-
-// A time that is shown as these tenths of a second.
-fn time_shown(tenths: u32) -> u32
-    requires { tenths ≤ 50 }
-    ensures shown { tenths_of result ≡ tenths }
-    ensures bounds { (1 ≤ result) × (result ≤ 5_000) }
-{
-    if tenths == 0 { 1 } else { 100 * tenths }
+    let (whole, tenth) = two_within(bytes, b".", b" s", 9)?;
+    let tenths = 10 * whole + tenth;
+    (tenths <= 50).then_some(tenths)
 }
 
 /// The place of an event in its crash, by how many events the crash has. A second one is read as plainly as it can be.
@@ -178,7 +155,7 @@ pub(crate) fn place_between(place: Place, bytes: &[u8]) -> Option<Place>
         Place::First if is_word(bytes, b"none") => Some(Place::First),
         Place::First => None,
         Place::Second { .. } => {
-            let after = time_shown(tenths(bytes)?);
+            let after = (100 * tenths(bytes)?).max(1);
             Some(Place::Second { after })
         }
     }
@@ -200,32 +177,13 @@ pub(crate) fn damage(bytes: &[u8]) -> Option<BankView>
 
 // How a cycle ended.
 fn stop(bytes: &[u8]) -> Option<Option<u32>>
-    ensures { Reads end_words IsStopCall bytes.now result }
+    ensures { Reads (λ stop. codes ", " ++ stop_words stop) IsStopCall bytes.now result }
 {
     if is_word(bytes, b", power off") {
         return Some(None);
     }
     let call = last_within(bytes, b", stopped in call ", 1, u32::MAX)?;
     Some(Some(call))
-}
-
-/// The number of a cycle that ran, and how it ended.
-pub(crate) fn ran(bytes: &[u8]) -> Option<(u32, Option<u32>)>
-    ensures { ReadsTwo ran_words IsRan bytes.now result }
-{
-    let (number, rest) = within_after(bytes, b"number ", 1, u32::MAX)?;
-    Some((number, stop(rest)?))
-}
-
-// What was done in this bank.
-fn done_in(kind: Kind, bank: u8) -> Applied
-    ensures { result ≡ done_in kind bank }
-{
-    match kind {
-        Kind::Take => Applied::Kept { bank },
-        Kind::Lock => Applied::Locked { bank },
-        Kind::Done => Applied::Done { bank },
-    }
 }
 
 /// What came of a command of this kind.
@@ -236,21 +194,11 @@ pub(crate) fn answer(bytes: &[u8], kind: Kind) -> Option<Applied>
         return Some(Applied::NotKept);
     }
     let bank = bank_after(bytes, b"bank ")?;
-    Some(done_in(kind, bank))
-}
-
-// Which command was acknowledged, and when.
-fn command(bytes: &[u8]) -> Option<(Kind, u32)>
-    ensures { ReadsTwo command_words (λ _ t. IsTick t) bytes.now result }
-{
-    if let Some(tick) = last_within(bytes, b" take at ", 1, LATEST_MOMENT) {
-        return Some((Kind::Take, tick));
-    }
-    if let Some(tick) = last_within(bytes, b" lock at ", 1, LATEST_MOMENT) {
-        return Some((Kind::Lock, tick));
-    }
-    let tick = last_within(bytes, b" done at ", 1, LATEST_MOMENT)?;
-    Some((Kind::Done, tick))
+    Some(match kind {
+        Kind::Take => Applied::Kept { bank },
+        Kind::Lock => Applied::Locked { bank },
+        Kind::Done => Applied::Done { bank },
+    })
 }
 
 /// Which command of the cycle in this place was acknowledged, and when.
@@ -258,13 +206,18 @@ pub(crate) fn ack(bytes: &[u8], place: u32) -> Option<(Kind, u32)>
     ensures { ReadsTwo (ack_words place) (λ _ t. IsTick t) bytes.now result }
 {
     let (_, rest) = within_after(bytes, b"cycle ", place, place)?;
-    command(rest)
+    if let Some(tick) = last_within(rest, b" take at ", 1, LATEST_MOMENT) {
+        return Some((Kind::Take, tick));
+    }
+    if let Some(tick) = last_within(rest, b" lock at ", 1, LATEST_MOMENT) {
+        return Some((Kind::Lock, tick));
+    }
+    let tick = last_within(rest, b" done at ", 1, LATEST_MOMENT)?;
+    Some((Kind::Done, tick))
 }
 
 /// What stands in one slot of a list.
 pub(crate) trait SlotRead {
-    ghost use Rattle.std.specs.Prelude.{ℕ, List};
-
     // How it is spelled, and which values it may have.
     ghost words: { Self → List ℕ };
 
@@ -276,9 +229,6 @@ pub(crate) trait SlotRead {
 }
 
 impl SlotRead for i16 {
-    ghost use Rattle.std.specs.Fmt.{signed_decimal};
-    ghost use Rattle.edr_record.specs.Bounds.{IsChange};
-
     ghost words = { signed_decimal };
 
     ghost is_slot = { IsChange };
@@ -300,9 +250,6 @@ fn number_or_none(bytes: &[u8], highest: u16) -> Option<(Option<u16>, &[u8])>
 }
 
 impl SlotRead for Option<u16> {
-    ghost use Rattle.edr_report.specs.Words.{number_or_none};
-    ghost use Rattle.edr_record.specs.Bounds.{IsUpTo};
-
     ghost words = { number_or_none };
 
     ghost is_slot = { IsUpTo 300 };
@@ -313,9 +260,6 @@ impl SlotRead for Option<u16> {
 }
 
 impl SlotRead for Option<u8> {
-    ghost use Rattle.edr_report.specs.Words.{number_or_none};
-    ghost use Rattle.edr_record.specs.Bounds.{IsUpTo};
-
     ghost words = { number_or_none };
 
     ghost is_slot = { IsUpTo 100 };
@@ -329,9 +273,6 @@ impl SlotRead for Option<u8> {
 }
 
 impl SlotRead for Option<bool> {
-    ghost use Rattle.std.specs.Prelude.{⊤};
-    ghost use Rattle.edr_report.specs.Words.{switch_or_none};
-
     ghost words = { switch_or_none };
 
     ghost is_slot = { λ _. ⊤ };
@@ -355,22 +296,15 @@ fn space_at(place: usize) -> &'static [u8]
     if place == 0 { b"" } else { b" " }
 }
 
-// The slot after these bytes, and what stands after it.
-fn slot_after<'a, S: SlotRead>(bytes: &'a [u8], front: &[u8]) -> Option<(S, &'a [u8])>
-    ensures { ReadsAfter front.now S.words S.is_slot bytes.now result }
-{
-    S::in_front(after(bytes, front)?)
-}
-
 /// Reads slots that are parted by one space, as many as there are, if the bytes are such slots.
 pub(crate) fn read_slots<S: SlotRead + Copy>(bytes: &[u8], slots: &mut [S]) -> Option<()>
     ensures { ReadsSlots S.words S.is_slot bytes.now slots.old slots.new result }
 {
     let mut rest = bytes;
     for i in 0..slots.len() {
-        let next = slot_after(rest, space_at(i))?;
-        slots[i] = next.0;
-        rest = next.1;
+        let (slot, more) = S::in_front(after(rest, space_at(i))?)?;
+        slots[i] = slot;
+        rest = more;
     }
     if rest.is_empty() { Some(()) } else { None }
 }
@@ -422,6 +356,7 @@ pub(crate) fn cycle_value(value: &[u8]) -> Option<CycleRow>
     if let Some(call) = last_within(value, b"start stopped in call ", 1, 6) {
         return Some(CycleRow::StartStopped { call });
     }
-    let (number, stopped) = ran(value)?;
+    let (number, rest) = within_after(value, b"number ", 1, u32::MAX)?;
+    let stopped = stop(rest)?;
     Some(CycleRow::Ran { number, stopped })
 }

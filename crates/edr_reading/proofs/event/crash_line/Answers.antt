@@ -4,7 +4,7 @@ use Rattle.edr_report.specs.declared.event_lines.{CrashLine.{CrashLine, TheVaria
 use Rattle.edr_report.specs.{EventWords.place_of, Words.firing_words}
 use Rattle.edr_reading.specs.Reading.{crash_place, crash_texts, first_texts}
 use Rattle.edr_reading.proofs.EventLemmas.{front-before, set-before}
-use Rattle.edr_reading.proofs.event.crash_line.Goals.{in-End+in_ok-end_time-in-End, in-Along+in_ok-read-inside-in-Along, in-Across+in_ok-read-inside-in-Across, in-MaxAlong+in_ok-read-inside-in-MaxAlong, in-MaxAcross+in_ok-read-inside-in-MaxAcross, in-ResultAt+in_ok-read-inside-in-ResultAt, in-Missing+in_ok-along-in-Missing, in-Fired+in_ok-read-inside-in-Fired}
+use Rattle.edr_reading.proofs.event.crash_line.Goals.{in-End+in_ok-time-in-End, in-Along+in_ok-read-inside-in-Along, in-Across+in_ok-read-inside-in-Across, in-MaxAlong+in_ok-read-inside-in-MaxAlong, in-MaxAcross+in_ok-read-inside-in-MaxAcross, in-ResultAt+in_ok-read-inside-in-ResultAt, in-Missing+in_ok-along-in-Missing, in-Fired+in_ok-read-inside-in-Fired}
 use Rattle.edr_reading.proofs.event.crash_line.Goals as goal
 
 fired-earlier : (c d : CrashPart) (line : CrashLine) (r : Restraint) (k : ℕ) (x : Option ℕ) → line ≡ Fired r → k ≡ place_of r → d ≡ c → take (crash_place line) (first_texts c ++ map firing_words (set c.fired k x)) ≡ take (crash_place line) (crash_texts (Some d))
@@ -13,7 +13,7 @@ fired-earlier c d line r k x is at same =
 
 pub returns : goal.returns
 returns c = elim c.match-line.branch [
-  | in-End+in_ok-end_time-in-End w ↦ rw w.read-is (search rules)
+  | in-End+in_ok-time-in-End w ↦ rw w.read-is (search rules)
   | in-Along+in_ok-read-inside-in-Along w ↦ rw w.read-is (search rules)
   | in-Across+in_ok-read-inside-in-Across w ↦ rw w.read-is (search rules)
   | in-MaxAlong+in_ok-read-inside-in-MaxAlong w ↦ rw w.read-is (search rules)

@@ -3,4 +3,4 @@ use Rattle.edr_reading.proofs.ValueLemmas.{missing-read}
 use Rattle.edr_reading.proofs.values.missing.Goals as goal
 
 pub returns : goal.returns
-returns c = missing-read c.args.bytes.now c.from.result c.args.window c.two_within.result (omega (arith, c.from.ensures)) c.two_within.ensures
+returns c = missing-read c.args.bytes.now c.from-high.result c.args.window c.two_within.result (omega (arith, c.from-high.ensures)) c.two_within.ensures

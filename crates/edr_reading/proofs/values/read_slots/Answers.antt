@@ -1,10 +1,9 @@
-use Rattle.std.proofs.{Common.{arith, ◌≡◌, ◌∙◌, sym, ◌<◌, ◌+◌, length, map, drop, get_or}, lemmas.List.Elements.All-get_or}
-use Rattle.edr_reading.specs.Answers.{spaced_after}
+use Rattle.std.proofs.{Common.{arith, ◌≡◌, ◌∙◌, sym, ap, ◌<◌, ℕ, List, ◌++◌, length, get_or}, lemmas.List.Elements.All-get_or}
 use Rattle.edr_reading.proofs.SlotLemmas.{all-same, taken-more, left-one, are-more, ends-more, same-more, some-in, read-all, none-left}
 use Rattle.edr_reading.proofs.values.read_slots.Goals as goal
 
-pub returns-in_err-next : goal.returns-in_err-next
-returns-in_err-next g c =
+pub returns-in_err-after : goal.returns-in_err-after
+returns-in_err-after g c =
     let at = c.loop-i in
     let words = g.S.SlotRead.words in
     rw c.from_residual.ensures (record {
@@ -12,28 +11,40 @@ returns-in_err-next g c =
       read = tt;
       whole = λ xs long is.
           let h : at.i < length xs = omega (arith, long, c.loop-i-test.true) in
+          absurd (c.in_err-after.ensures.whole _ (left-one words xs at.rest.now c.space_at.result.now at.i (some-in xs at.i h) h (at.invariant.whole xs long is).1 c.space_at.ensures));
+    })
+
+pub returns-in_err-slot : goal.returns-in_err-slot
+returns-in_err-slot g c =
+    let at = c.loop-i in
+    let words = g.S.SlotRead.words in
+    rw c.from_residual-in_err-slot.ensures (record {
+      long = at.auto.slots;
+      read = tt;
+      whole = λ xs long is.
+          let h : at.i < length xs = omega (arith, long, c.loop-i-test.true) in
           let d = some-in xs at.i h in
-          let w = at.invariant.whole xs long is in
-          absurd (c.in_err-next.ensures.whole (get_or xs at.i d) (spaced_after (at.i + 1) (map words (drop (at.i + 1) xs))) (All-get_or g.S.SlotRead.is_slot xs at.i d h is.1) (ends-more at.i _)
-          (left-one words xs at.rest.now c.space_at.result.now at.i d h w.1 c.space_at.ensures));
+          let left = c.in_ok-after.ensures.whole _ (left-one words xs at.rest.now c.space_at.result.now at.i d h (at.invariant.whole xs long is).1 c.space_at.ensures) in
+          absurd (c.in_err-slot.ensures.whole (get_or xs at.i d) _ (All-get_or g.S.SlotRead.is_slot xs at.i d h is.1) (ends-more at.i _) left);
     })
 
 pub loop-i-preserved : goal.loop-i-preserved
 loop-i-preserved g c =
     let at = c.loop-i in
     let words = g.S.SlotRead.words in
+    let slot = c.in_ok-slot.slot in
     let inside : at.i < length at.slots = omega (arith, at.auto.slots, c.loop-i-test.true) in
-    let read = c.in_ok-next.ensures.read in
+    let read = c.in_ok-slot.ensures.read in
+    let here = c.in_ok-after.ensures.read ∙ ap (λ (rest : List ℕ). c.space_at.result.now ++ rest) read.0 in
     record {
-      read = taken-more words c.args.bytes.now at.rest.now c.in_ok-next.next.1.now c.space_at.result.now at.slots at.i c.in_ok-next.next.0 inside at.invariant.read c.space_at.ensures read.0;
-      slots = are-more g.S.SlotRead.is_slot at.slots at.i c.in_ok-next.next.0 inside at.invariant.slots read.1;
+      read = taken-more words c.args.bytes.now at.rest.now c.in_ok-slot.more.now c.space_at.result.now at.slots at.i slot inside at.invariant.read c.space_at.ensures here;
+      slots = are-more g.S.SlotRead.is_slot at.slots at.i slot inside at.invariant.slots read.1;
       whole = λ xs long is.
           let h : at.i < length xs = omega (arith, long, c.loop-i-test.true) in
-          let d = c.in_ok-next.next.0 in
           let w = at.invariant.whole xs long is in
-          let n = c.in_ok-next.ensures.whole (get_or xs at.i d) (spaced_after (at.i + 1) (map words (drop (at.i + 1) xs))) (All-get_or g.S.SlotRead.is_slot xs at.i d h is.1) (ends-more at.i _)
-          (left-one words xs at.rest.now c.space_at.result.now at.i d h w.1 c.space_at.ensures) in
-          (same-more at.slots xs at.i c.in_ok-next.next.0 d inside h w.0 n.0, n.1);
+          let left = c.in_ok-after.ensures.whole _ (left-one words xs at.rest.now c.space_at.result.now at.i slot h w.1 c.space_at.ensures) in
+          let n = c.in_ok-slot.ensures.whole (get_or xs at.i slot) _ (All-get_or g.S.SlotRead.is_slot xs at.i slot h is.1) (ends-more at.i _) left in
+          (same-more at.slots xs at.i slot slot inside h w.0 n.0, n.1);
     }
 
 pub returns-then-is_empty : goal.returns-then-is_empty
