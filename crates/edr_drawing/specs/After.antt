@@ -1,12 +1,12 @@
 -- The chart of the time after time zero: changes of speed, and on the same time axis what happened when.
-use Rattle.std.specs.Prelude.{ℕ, Bool, ◌+◌, ◌-◌, ◌*◌, ◌/◌, ℤ, pos, not, if◌then◌else◌, nat_lt, nat_le, nat_eq, List, [], ◌∷◌, ◌++◌, codes, decimal, ◌&&◌, ◌||◌, Option, Some, None}
-use Rattle.std.specs.{Fmt.signed_decimal, Ordering.int_eq}
+use Rattle.std.specs.Prelude.{ℕ, Bool, ◌+◌, ◌-◌, ◌*◌, ◌/◌, ℤ, pos, not, if◌then◌else◌, nat_lt, nat_le, nat_eq, List, [], ◌∷◌, ◌++◌, decimal, ◌&&◌, ◌||◌, Option, Some, None}
+use Rattle.std.specs.{Fmt.signed_decimal, Int.abs_diff, Ordering.int_eq}
 use Rattle.edr_record.specs.{declared.TheConstants.POINT_STEP, declared.Extreme.Extreme, Parts.CrashPart, Bounds.window_from_end}
 use Rattle.edr_report.specs.Words.{milliseconds}
 use Rattle.edr_drawing.specs.declared.after.TheConstants.{CENTRED_OR_ENDING, DIAMOND, DIAMOND_UP, END_LINE, FAR_RIGHT, GAPPED, GAPS_Y, LEGEND, LEGEND_GAPS, LEVEL, LEVEL_CLASSES, MAXIMUM_NUMBER, NEXT_LINE, NOT_RECORDED, NUMBER_FROM, PAST_WINDOW, ROOM_NOT_RECORDED, SILENT_CURVE, SILENT_FROM, TIME_LINES, TIMES_APART, ZERO_LINES, AFTER_HEAD, BESIDE_CLASSES, BESIDE_FLAG, CHART_END, EMPTY_ROW, FIRST_RESTRAINT, FLAG_DOWN, FLAG_FAR_RIGHT, NAME_CLASSES, ROW, ROWS, ROWS_Y, ROW_HEIGHT, RULE, WITHOUT_PART, WORDS_CLASSES, WORDS_DOWN}
 use Rattle.edr_drawing.specs.declared.after.{ChartRow.ChartRow, ChartRow.TheVariants.{End, Greatest, Resultant, Fired}}
 use Rattle.edr_drawing.specs.declared.scales.{CarAxis.CarAxis, CarAxis.TheVariants.{Along, Across}, Scale.Scale, TheConstants.{AXIS_DIGITS, AXIS_NAMES, BELOW_TOP, HEIGHT, NO_SAMPLE, RIGHT}}
-use Rattle.edr_drawing.specs.declared.template.{Shape.Shape, TheConstants.{PATH, PATH_END, NONE, RADII}}
+use Rattle.edr_drawing.specs.declared.template.{Shape.Shape, TheConstants.{MINUS, PATH, PATH_END, NONE, RADII}}
 use Rattle.edr_drawing.specs.declared.template.Shape.TheVariants as shape
 use Rattle.edr_drawing.specs.Template.{either, filled, filled_if, fixed, shapes_bytes}
 use Rattle.edr_drawing.specs.Scales.{flat_map_below, change_y, time_x, scale_of, extreme_of, is_silent, missing_of, of_axis, points_of, greatest_words}
@@ -33,7 +33,8 @@ level s above =
     (either (nat_eq above s.bottom) LEVEL_CLASSES.0.now LEVEL_CLASSES.1.now
     ∷ decimal (level_y s above)
     ∷ decimal (level_y s above + 9)
-    ∷ (if nat_lt above s.bottom then codes "-" ++ decimal (s.bottom - above) else decimal (above - s.bottom))
+    ∷ either (nat_lt above s.bottom) MINUS.0.now MINUS.1.now
+    ∷ decimal (abs_diff above s.bottom)
     ∷ [])
 
 -- a line at each step

@@ -7,7 +7,7 @@ use Rattle.edr_image.specs.{Reports.Report, declared.{BankView.BankView, BankVie
 use Rattle.edr_report.specs.{Report.found_records, Words.{number_shown, tenths_of}, declared.TheConstants.LARGEST_SHOWN_COUNT}
 use Rattle.edr_drawing.specs.declared.{Origin.Origin, TheConstants.{BEGINNING, VERSION}, long.TheConstants.{BODY, FORM_AND_NOTES, HEAD, PAGE_END, STYLE}}
 use Rattle.edr_drawing.specs.declared.{scales.CarAxis.CarAxis, scales.CarAxis.TheVariants.{Along, Across}, scales.TheConstants.AXIS_NAMES, sheets.FoundEvent.FoundEvent}
-use Rattle.edr_drawing.specs.declared.sheets.TheConstants.{DAMAGED_BANK, DAMAGED_START, EVENT_ROW, EVENTS_START, FIRST_FOOT, FIRST_SHEET, SET_OR_NOT, LIST_END, YES_NO, ELSEWHERE, IF_SAME_CYCLE, OR_EVENT, PLACE_END, PLACE_START, SECOND_AFTER, PART_ABSENT, PROFILES, REASONS_START, SAMPLED, SAMPLES_ABSENT, SHEET_FOOT, SHEET_HEAD, SWITCHES, SWITCH_ABSENT, WINDOW_ABSENT}
+use Rattle.edr_drawing.specs.declared.sheets.TheConstants.{DAMAGED_BANK, DAMAGED_START, EVENT_ROW, EVENTS_START, FIRST_FOOT, FIRST_SHEET, SET_OR_NOT, LIST_END, YES_NO, ELSEWHERE, IF_SAME_CYCLE, OR_EVENT, PLACE, SECOND_AFTER, PART_ABSENT, PROFILES, REASONS_START, SAMPLED, SAMPLES_ABSENT, SHEET_FOOT, SHEET_HEAD, SWITCHES, SWITCH_ABSENT, WINDOW_ABSENT}
 use Rattle.edr_drawing.specs.declared.{tables.TheConstants.TABLE_END, template.TheConstants.{FIRST, NONE}}
 use Rattle.edr_drawing.specs.{After.after_chart, Scales.{greatest_words, missing_of, of_axis}, Before.before_chart, Tables.{by_time, elements_table, points_table, run_table}}
 use Rattle.edr_drawing.specs.Template.{either, filled, filled_if, fixed, of_profile, place_words, seconds}
@@ -116,7 +116,7 @@ place_told events key (Second after) =
     filled SECOND_AFTER.now (seconds (tenths_of after) ∷ []) ++ firsts_words key.cycle (firsts key after events)
 
 unfoldable pub place_fact : List NumberedRecord → Key → Place → List ℕ
-place_fact events key place = fixed PLACE_START.now ++ place_told events key place ++ fixed PLACE_END.now
+place_fact events key place = fixed PLACE.0.now ++ place_told events key place ++ fixed PLACE.1.now
 
 -- how many of so many samples of this are absent, if any is
 abbrev pub share_reason : List ℕ → List ℕ → ℕ → ℕ → List ℕ

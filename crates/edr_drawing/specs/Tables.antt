@@ -1,13 +1,13 @@
 -- The tables of a page.
-use Rattle.std.specs.{Prelude.{ℕ, ◌+◌, ◌-◌, ◌*◌, min, ℤ, Bool, true, false, count_by, if◌then◌else◌, nat_eq, Option, Some, None, List, [], ◌∷◌, ◌++◌, flat_map, decimal, ◌/◌, get_or}, List.{list_any}, Cmp.Lexicographic.{pointwise}, Fmt.{signed_decimal}}
+use Rattle.std.specs.{Prelude.{ℕ, ◌+◌, ◌-◌, ◌*◌, min, ℤ, Bool, true, false, count_by, if◌then◌else◌, nat_eq, nat_lt, Option, Some, None, List, [], ◌∷◌, ◌++◌, flat_map, decimal, ◌/◌, get_or}, List.{list_any}, Cmp.Lexicographic.{pointwise}, Fmt.{signed_decimal}}
 use Rattle.edr_record.specs.{Bounds.point_count, Parts.{CrashPart, PrePart}}
 use Rattle.edr_record.specs.declared.{Profile.Profile, Profile.TheVariants.{Short, Long}, Record.Record, TheConstants.{LONG_SLOTS, POINT_STEP, SHORT_SLOTS}}
 use Rattle.edr_image.specs.{Reports.{Report, StartStopped, Ran}, declared.{Applied.Applied, Applied.TheVariants.Kept}}
 use Rattle.edr_report.specs.{Lines.Line, Report.{event_lines, run_lines}}
 use Rattle.edr_drawing.specs.declared.{scales.CarAxis.CarAxis, scales.CarAxis.TheVariants.{Along, Across}, scales.TheConstants.{AXIS_NAMES, NO_SAMPLE}, before.TheConstants.SPANS}
-use Rattle.edr_drawing.specs.declared.{sheets.TheConstants.PROFILES, template.TheConstants.{NONE, SWITCH_WORDS}}
+use Rattle.edr_drawing.specs.declared.{sheets.TheConstants.PROFILES, template.TheConstants.{MINUS, NONE, SWITCH_WORDS}}
 use Rattle.edr_drawing.specs.declared.tables.TheConstants.{AXIS_ROW, BLOCK_START, BY_TIME_END, BY_TIME_START, CELL, ELEMENTS_END, ELEMENTS_START, IN_TABLE, KILOMETRE, LINE, LISTS, LONG_BLOCKS, MILE, MOST_TAKEN, NEXT_TABLE, POINT_TIME, POINTS_BODY, POINTS_START, ROW_END, RUN_START, SECOND_TABLE, SILENT_CELL, SLOT_ROW, TABLE_END}
-use Rattle.edr_drawing.specs.{Scales.{flat_map_below, is_silent, of_axis, points_of}, Template.{before_zero, filled, fixed, of_profile, of_switch}}
+use Rattle.edr_drawing.specs.{Scales.{flat_map_below, is_silent, of_axis, points_of}, Template.{either, filled, fixed, of_profile, of_switch, seconds}}
 
 -- ---- rows of names and values
 
@@ -117,7 +117,8 @@ mph (Some kmh) = Some ((kmh * KILOMETRE + MILE / 2) / MILE)
 unfoldable pub slot_row : PrePart → ℕ → List ℕ
 slot_row p k =
     filled SLOT_ROW.now
-    (before_zero (slot_tenths p.profile k)
+    (either (nat_lt 0 (slot_tenths p.profile k)) MINUS.0.now MINUS.1.now
+    ∷ seconds (slot_tenths p.profile k)
     ∷ number_word (slot_at p.speed k)
     ∷ number_word (mph (slot_at p.speed k))
     ∷ number_word (slot_at p.throttle k)

@@ -36,21 +36,15 @@ abbrev pub place_words : Place → List ℕ
 place_words First = FIRST.now
 place_words (Second after) = SECOND.now ++ seconds (tenths_of after) ++ AFTER_FIRST.now
 
--- tenths of a second before time zero, as seconds
-abbrev pub before_zero : ℕ → List ℕ
-before_zero tenths = (if nat_eq tenths 0 then [] else codes "-") ++ seconds tenths
-
 -- what goes into a hole
 abbrev pub filling_bytes : Filling → List ℕ
 filling_bytes (filling.Text t) = t.now
 filling_bytes (filling.Number n) = decimal n
 filling_bytes (filling.Count n) = decimal n
 filling_bytes (filling.Change z) = signed_decimal z
-filling_bytes (filling.Below n) = codes "-" ++ decimal n
 filling_bytes (filling.Seconds tenths) = seconds tenths
 filling_bytes (filling.Place p) = place_words p
 filling_bytes (filling.Milliseconds t) = milliseconds t
-filling_bytes (filling.Before tenths) = before_zero tenths
 filling_bytes (filling.Extreme x) = extreme_words x
 
 -- ---- templates

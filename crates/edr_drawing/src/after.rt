@@ -10,9 +10,9 @@ use crate::scales::{
     greatest, is_silent, missing_of, of_axis, points_of,
 };
 use crate::tables::slot_at;
-use crate::template::Filling::{Below, Change, Count, Milliseconds, Number, Text};
+use crate::template::Filling::{Change, Count, Milliseconds, Number, Text};
 use crate::template::{
-    Drawn, Filling, NONE, PATH, PATH_END, RADII, Shape, draw, either, fill, fill_if, put,
+    Drawn, Filling, MINUS, NONE, PATH, PATH_END, RADII, Shape, draw, either, fill, fill_if, put,
 };
 use edr_record::{Crash, Extreme, POINT_STEP, window_from_end};
 
@@ -76,7 +76,7 @@ pub const SILENT_FROM: (u32, u32) = (32, 12);
 
 /// The line of a change of speed, with its number.
 pub const LEVEL: &[u8] = br#"<path class="{0}" d="M330 {1}L1830 {1}"/>
-<text x="316" y="{2}" class="e s">{3}</text>
+<text x="316" y="{2}" class="e s">{3}{4}</text>
 "#;
 
 /// The class of the line at 0, and that of others.
@@ -130,22 +130,14 @@ fn draw_levels(out: &mut Vec<u8>, scale: &Scale) -> Drawn
     requires { IsScale scale.now }
     ensures { OnOk result (out.new.items ≡ out.old.items ++ levels scale.now) }
 {
-    let Scale {
-        top,
-        bottom,
-        step,
-        ..
-    } = *scale;
-    for i in 0..(top + bottom) / step + 1 {
-        let above = step * i;
+    let (top, bottom) = (scale.top, scale.bottom);
+    for i in 0..(top + bottom) / scale.step + 1 {
+        let above = scale.step * i;
         let y = BELOW_TOP + (top + bottom).saturating_sub(above) * HEIGHT / (top + bottom);
         let class = Text(either(above == bottom, LEVEL_CLASSES));
-        let number = if above < bottom {
-            Below(bottom - above)
-        } else {
-            Number(above - bottom)
-        };
-        fill(out, LEVEL, &[class, Number(y), Number(y + 9), number])?;
+        let (sign, number) = (Text(either(above < bottom, MINUS)), above.abs_diff(bottom));
+        let parts = [class, Number(y), Number(y + 9), sign, Number(number)];
+        fill(out, LEVEL, &parts)?;
     }
     Ok(())
 }

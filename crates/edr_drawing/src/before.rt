@@ -3,8 +3,7 @@
 
 ghost use Rattle.std.specs.Prelude.{◌≡◌, ◌++◌, ◌≤◌, ◌<◌, ◌+◌, ◌-◌, ◌*◌, ◌/◌, false, OnOk, length, None, take};
 ghost use Rattle.edr_record.specs.{Bounds.slots_in, declared.TheConstants.LONG_SLOTS};
-ghost use Rattle.edr_drawing.specs.Template.{of_profile, shapes_bytes};
-ghost use Rattle.edr_drawing.specs.Before.{IsBand, IsChartLane, before_chart, brake_runs, cells, drawn_lane, grid, lane_y, marked, points, run_shapes, speed_lane, switch_moment, time_lines};
+ghost use Rattle.edr_drawing.specs.{Template.{of_profile, shapes_bytes}, Before.{IsBand, IsChartLane, before_chart, brake_runs, cells, drawn_lane, grid, lane_y, marked, points, run_shapes, speed_lane, switch_moment, time_lines}};
 
 use crate::scales::{AXIS_DIGITS, least_step, slot_x};
 use crate::template::Filling::{Count, Number, Seconds, Text};

@@ -2,8 +2,7 @@
 
 ghost use Rattle.std.specs.{Prelude.{◌≡◌, ◌≤◌, ◌<◌, ◌+◌, ◌*◌, ◌-◌, All, length, max, unsigned_abs}, List.list_all};
 ghost use Rattle.edr_record.specs.declared.TheConstants.{LONG_SLOTS, POINTS};
-ghost use Rattle.edr_drawing.specs.Template.{filling_bytes};
-ghost use Rattle.edr_drawing.specs.Scales.{extreme_of, greatest_words, is_silent, missing_of, of_axis, points_of, slot_x, least_step, reach_of, IsScale, furthest, reach, is_early, span_of, scale_of, change_y, time_x};
+ghost use Rattle.edr_drawing.specs.{Template.filling_bytes, Scales.{extreme_of, greatest_words, is_silent, missing_of, of_axis, points_of, slot_x, least_step, reach_of, IsScale, furthest, reach, is_early, span_of, scale_of, change_y, time_x}};
 
 use crate::template::Filling;
 use edr_record::{Crash, Extreme, POINTS, Profile, point_count, window_from_end};

@@ -148,9 +148,7 @@ pub fn put_damaged(out: &mut Vec<u8>, found: &[Found]) -> Drawn
     put(out, LIST_END)
 }
 
-pub const PLACE_START: &[u8] = b"<li>Place in crash: <b>";
-
-pub const PLACE_END: &[u8] = b"</b></li></ul>\n";
+pub const PLACE: (&[u8], &[u8]) = (b"<li>Place in crash: <b>", b"</b></li></ul>\n");
 
 /// How long after the first event of its pair a second one began.
 pub const SECOND_AFTER: &[u8] = b"second, {0} s after ";
@@ -199,7 +197,7 @@ fn put_firsts(out: &mut Vec<u8>, events: &[FoundEvent<'_>], key: Key, after: u32
 fn put_place_fact(out: &mut Vec<u8>, events: &[FoundEvent<'_>], pre: &Pre) -> Drawn
     ensures { OnOk result (out.new.items ≡ out.old.items ++ place_fact (numbered events.now) pre.now.key pre.now.place) }
 {
-    put(out, PLACE_START)?;
+    put(out, PLACE.0)?;
     match pre.place {
         Place::First => put(out, FIRST)?,
         Place::Second { after } => {
@@ -207,7 +205,7 @@ fn put_place_fact(out: &mut Vec<u8>, events: &[FoundEvent<'_>], pre: &Pre) -> Dr
             put_firsts(out, events, pre.key, after)?;
         }
     }
-    put(out, PLACE_END)
+    put(out, PLACE.1)
 }
 
 pub const REASONS_START: &[u8] = br#"<div class="note why"><b>Not complete:</b>

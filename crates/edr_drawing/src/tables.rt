@@ -2,14 +2,15 @@
 
 ghost use Rattle.std.specs.Prelude.{◌≡◌, ◌++◌, ◌≤◌, ◌<◌, ◌+◌, ◌*◌, OnOk, map, min, ◌/◌};
 ghost use Rattle.edr_image.specs.Reports.{report_of};
-ghost use Rattle.edr_drawing.specs.Tables.{block, blocks_of, by_time, change_row, elements_table, mph, number_word, points_table, run_table, slot_at, slot_row, slot_tenths, taken_in, taken_of};
-ghost use Rattle.edr_drawing.specs.Template.{filling_bytes};
+ghost use Rattle.edr_drawing.specs.{Tables.{block, blocks_of, by_time, change_row, elements_table, mph, number_word, points_table, run_table, slot_at, slot_row, slot_tenths, taken_in, taken_of}, Template.filling_bytes};
 
 use crate::before::SPANS;
 use crate::scales::{AXIS_NAMES, CarAxis, NO_SAMPLE, is_silent, of_axis, points_of};
 use crate::sheets::PROFILES;
-use crate::template::Filling::{Before, Change, Count, Number, Text};
-use crate::template::{Drawn, Filling, NONE, SWITCH_WORDS, fill, of_profile, of_switch, put};
+use crate::template::Filling::{Change, Count, Number, Seconds, Text};
+use crate::template::{
+    Drawn, Filling, MINUS, NONE, SWITCH_WORDS, either, fill, of_profile, of_switch, put,
+};
 use edr_image::{Ack, Applied, CycleReport};
 use edr_record::{Crash, LONG_SLOTS, POINT_STEP, Pre, Profile, Record, SHORT_SLOTS, point_count};
 use edr_report::{Lines, print_event, print_run};
@@ -205,7 +206,7 @@ pub const BLOCK_START: &[u8] = br#"<table class="num" aria-label="Before time ze
 "#;
 
 pub const SLOT_ROW: &[u8] =
-    br#"<tr><th scope="row">{0}</th><td>{1}</td><td>{2}</td><td>{3}</td><td>{4}</td></tr>
+    br#"<tr><th scope="row">{0}{1}</th><td>{2}</td><td>{3}</td><td>{4}</td><td>{5}</td></tr>
 "#;
 
 /// A long profile stands in this many blocks beside each other.
@@ -268,10 +269,11 @@ fn put_slot(out: &mut Vec<u8>, pre: &Pre, k: u32) -> Drawn
     let speed = slot_at(pre.speed(), k);
     let throttle = slot_at(pre.throttle(), k).map(u16::from);
     let brake = Text(of_switch(slot_at(pre.brake(), k), SWITCH_WORDS));
-    let time = Before(u64::from(slot_tenths(pre.profile(), k)));
+    let tenths = slot_tenths(pre.profile(), k);
+    let (sign, time) = (Text(either(0 < tenths, MINUS)), Seconds(tenths.into()));
     let (kmh, miles) = (number_word(speed), number_word(mph(speed)));
     let throttle = number_word(throttle);
-    fill(out, SLOT_ROW, &[time, kmh, miles, throttle, brake])
+    fill(out, SLOT_ROW, &[sign, time, kmh, miles, throttle, brake])
 }
 
 // Appends a block.

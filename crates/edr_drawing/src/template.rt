@@ -30,15 +30,11 @@ pub enum Filling<'a> {
     Number(u32),
     Count(u64),
     Change(i16),
-    /// A number below 0, by its size.
-    Below(u32),
     /// Tenths of a second, as seconds.
     Seconds(u64),
     /// The place of an event in its crash.
     Place(Place),
     Milliseconds(u16),
-    /// Tenths of a second before time zero, as seconds.
-    Before(u64),
     /// A greatest change, with its time.
     Extreme(Extreme),
 }
@@ -94,10 +90,6 @@ fn put_filling(out: &mut Vec<u8>, filling: Filling<'_>) -> Drawn
         Filling::Number(n) => put_number(out, n),
         Filling::Count(n) => put_number(out, n),
         Filling::Change(z) => put_number(out, z),
-        Filling::Below(n) => {
-            out.extend_from_slice(b"-")?;
-            put_number(out, n)
-        }
         Filling::Seconds(tenths) => put_seconds(out, tenths),
         Filling::Place(Place::First) => out.extend_from_slice(FIRST),
         Filling::Place(Place::Second { after }) => {
@@ -108,11 +100,6 @@ fn put_filling(out: &mut Vec<u8>, filling: Filling<'_>) -> Drawn
         Filling::Milliseconds(time) => {
             put_number(out, time)?;
             out.extend_from_slice(b" ms")
-        }
-        Filling::Before(0) => put_seconds(out, 0),
-        Filling::Before(tenths) => {
-            out.extend_from_slice(b"-")?;
-            put_seconds(out, tenths)
         }
         Filling::Extreme(extreme) => {
             put_number(out, extreme.kmh)?;
@@ -169,6 +156,9 @@ pub fn put(out: &mut Vec<u8>, text: &[u8]) -> Drawn
 {
     out.extend_from_slice(text)
 }
+
+/// What stands before a number below 0, and before others.
+pub const MINUS: (&[u8], &[u8]) = (b"-", b"");
 
 /// The words of what is absent, and of what a switch is.
 pub const NONE: &[u8] = b"none";

@@ -1,6 +1,5 @@
 use Rattle.std.proofs.Common.{◌≡◌, ◌++◌, ◌*◌}
-use Rattle.edr_drawing.specs.Scales.{flat_map_below}
-use Rattle.edr_drawing.specs.After.{level}
+use Rattle.edr_drawing.specs.{Scales.flat_map_below, After.level}
 use Rattle.edr_drawing.proofs.after.draw_levels.Given as goal
 
 abbrev pub invariant-loop-i : goal.invariant-loop-i

@@ -1,7 +1,5 @@
 use Rattle.std.proofs.Common.{◌≡◌, ◌++◌, ◌+◌, ◌*◌}
-use Rattle.edr_drawing.specs.declared.after.TheConstants.{TIMES_APART}
-use Rattle.edr_drawing.specs.Scales.{flat_map_below}
-use Rattle.edr_drawing.specs.After.{time_line}
+use Rattle.edr_drawing.specs.{declared.after.TheConstants.TIMES_APART, Scales.flat_map_below, After.time_line}
 use Rattle.edr_drawing.proofs.after.draw_times.Given as goal
 
 abbrev pub invariant-loop-i : goal.invariant-loop-i

@@ -1,6 +1,5 @@
 use Rattle.std.proofs.Common.{◌≡◌, ◌++◌, ◌*◌}
-use Rattle.edr_drawing.specs.Scales.{flat_map_below}
-use Rattle.edr_drawing.specs.Before.{grid_line}
+use Rattle.edr_drawing.specs.{Scales.flat_map_below, Before.grid_line}
 use Rattle.edr_drawing.proofs.before.draw_grid.Given as goal
 
 abbrev pub invariant-loop-i : goal.invariant-loop-i

@@ -1,5 +1,4 @@
-use Rattle.edr_drawing.proofs.FirstLemmas.{are_firsts}
-use Rattle.edr_drawing.proofs.PartLemmas.{places_on_page}
+use Rattle.edr_drawing.proofs.{FirstLemmas.are_firsts, PartLemmas.places_on_page}
 use Rattle.edr_drawing.proofs.laws.each_first.Goals as goal
 
 pub returns : goal.returns

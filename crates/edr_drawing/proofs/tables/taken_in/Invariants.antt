@@ -1,7 +1,6 @@
 use Rattle.std.proofs.Common.{◌≡◌, ◌+◌, ◌≤◌, drop, map, min}
 use Rattle.edr_image.specs.Reports.{report_of}
-use Rattle.edr_drawing.specs.declared.tables.TheConstants.{MOST_TAKEN}
-use Rattle.edr_drawing.specs.Tables.{taken_in}
+use Rattle.edr_drawing.specs.{declared.tables.TheConstants.MOST_TAKEN, Tables.taken_in}
 use Rattle.edr_drawing.proofs.tables.taken_in.Given as goal
 
 -- what is left gives the rest
