@@ -1,3 +1,1 @@
-pub mod Asked
-pub mod Faults
 pub mod Pages

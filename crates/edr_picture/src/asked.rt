@@ -1,6 +1,6 @@
 //! What the command line asks for, and the texts with which the program answers a word.
 ghost use Rattle.std.specs.Prelude.{◌≡◌};
-ghost use Rattle.edr_picture.specs.Asked.{asked_by, version_line};
+ghost use Rattle.edr_picture.specs.Pages.{asked_by, version_line};
 
 use arrayvec::ArrayVec;
 use edr_drawing::VERSION;

@@ -1,7 +1,7 @@
 //! How the program ends: its status, and the line that tells why there is no page.
 ghost use Rattle.std.specs.Prelude.{◌≡◌, ◌≤◌, ◌+◌, ◌++◌};
 ghost use Rattle.arrayvec.specs.ArrayString.{array_string_len};
-ghost use Rattle.edr_picture.specs.Faults.{fault_line, fault_number, fault_words, number_of, row_words};
+ghost use Rattle.edr_picture.specs.Pages.{fault_line, fault_words, number_of, row_words};
 
 use edr_reading::RowFault;
 use edr_report::{Room, ShortLine, push_number};
@@ -44,37 +44,25 @@ fn push_row_fault(line: &mut Room, fault: RowFault)
     }
 }
 
-// Appends what went wrong.
-fn push_fault(line: &mut Room, fault: PageFault)
-    requires { array_string_len line.old ≤ 7 }
-    ensures bytes { line.new.bytes ≡ line.old.bytes ++ fault_words fault }
-    ensures len { array_string_len line.new ≤ 70 }
-{
-    match fault {
-        PageFault::Usage => {
-            line.push_str("usage: edr_picture [--help|--version] < crash.csv > crash.html");
-        }
-        PageFault::Report { row, fault } => {
-            push_number(line, "report row ", row);
-            line.push_str(": ");
-            push_row_fault(line, fault);
-        }
-        PageFault::Read => line.push_str("read fault"),
-        PageFault::OutOfMemory => line.push_str("out of memory"),
-        PageFault::TooLong => line.push_str("too long"),
-    }
-}
-
 impl PageFault {
-    fn code(self) -> u8
-        ensures { result ≡ fault_number self }
+    // Appends what went wrong.
+    fn push_to(self, line: &mut Room)
+        requires { array_string_len line.old ≤ 7 }
+        ensures bytes { line.new.bytes ≡ line.old.bytes ++ fault_words self }
+        ensures len { array_string_len line.new ≤ 70 }
     {
         match self {
-            PageFault::Usage => 2,
-            PageFault::Report { .. } => 3,
-            PageFault::Read => 4,
-            PageFault::OutOfMemory => 9,
-            PageFault::TooLong => 10,
+            PageFault::Usage => {
+                line.push_str("usage: edr_picture [--help|--version] < crash.csv > crash.html");
+            }
+            PageFault::Report { row, fault } => {
+                push_number(line, "report row ", row);
+                line.push_str(": ");
+                push_row_fault(line, fault);
+            }
+            PageFault::Read => line.push_str("read fault"),
+            PageFault::OutOfMemory => line.push_str("out of memory"),
+            PageFault::TooLong => line.push_str("too long"),
         }
     }
 
@@ -84,7 +72,7 @@ impl PageFault {
     {
         let mut line = Room::new();
         line.push_str("fault: ");
-        push_fault(&mut line, self);
+        self.push_to(&mut line);
         line.push_str("\n");
         ShortLine::new(line)
     }
@@ -97,8 +85,12 @@ impl PageStatus {
     {
         match self {
             PageStatus::Done => 0,
-            PageStatus::Faulty(fault) => fault.code(),
+            PageStatus::Faulty(PageFault::Usage) => 2,
+            PageStatus::Faulty(PageFault::Report { .. }) => 3,
+            PageStatus::Faulty(PageFault::Read) => 4,
             PageStatus::WriteFault => 5,
+            PageStatus::Faulty(PageFault::OutOfMemory) => 9,
+            PageStatus::Faulty(PageFault::TooLong) => 10,
         }
     }
 }

@@ -1,14 +1,17 @@
-use Rattle.std.proofs.Common.{arith, ◌≤◌, List, ℕ, length, sym, subst}
-use Rattle.edr_device.specs.Told.{Told}
-use Rattle.edr_device.specs.Transfer.{GivesAll}
-use Rattle.edr_picture.specs.Pages.{input, largest_report}
-use Rattle.edr_picture.proofs.PageLemmas.{cause-of, if-err}
+use Rattle.std.proofs.Common.{rules, length, subst, refl, ℕ, List, ◌≤◌}
+use Rattle.edr_device.specs.{Told.{Told}, Transfer.{GivesAll}}
+use Rattle.edr_reading.specs.{Reader.IsRefusalOfRecords, declared.reading.ReportRefused.TheVariants.Fault}
+use Rattle.edr_picture.specs.Pages.{largest_report}
+use Rattle.edr_picture.proofs.PageLemmas.{whole, few}
 use Rattle.edr_picture.proofs.draws.page_from.Goals as goal
 
-pub returns-in-Ok-clause-cause : goal.returns-in-Ok-clause-cause
-returns-in-Ok-clause-cause g c =
-    let S = g.S.Source in
-    let bytes = c.deref.result.now in
-    let few : length bytes ≤ largest_report = omega (arith, c.deref.ensures.len, c.in-Ok.ensures.within, c.in-Ok.bytes.ok) in
-    let all = subst (λ (v : List ℕ). Told (GivesAll v) (S.left c.args.source.now) (S.left c.take_all.new.source)) (sym c.deref.ensures.value) c.in-Ok.ensures.all in
-    if-err c.page_of.result _ _ (λ e why. cause-of bytes (input S.left S.faults c.args.source.now) (input S.left S.faults c.take_all.new.source) e few all why) c.page_of.ensures.refused
+pub returns-in-Err-Fault-clause-cause : goal.returns-in-Err-Fault-clause-cause
+returns-in-Err-Fault-clause-cause g c =
+    let most : length c.in_ok-bytes.bytes.items ≤ largest_report = search rules in
+    let all : Told (GivesAll c.in_ok-bytes.bytes.items) (g.S.Source.left c.args.source.now) (g.S.Source.left c.take_all.new.source) = search rules in
+    let refused = Fault c.in-Err-Fault.row c.in-Err-Fault.fault in
+    let why = subst (λ (b : List ℕ). IsRefusalOfRecords b refused) c.deref.ensures.value (rw c.in-Err-Fault.field-0-is at c.in-Err-Fault.ensures.fault) in
+    rw c.in-Err-Fault.field-0-is (refl, whole _ c.in_ok-bytes.bytes.items _ _ all (most, why))
+
+pub returns-in-Err-Fault-clause-takes : goal.returns-in-Err-Fault-clause-takes
+returns-in-Err-Fault-clause-takes g c = search (rules, few c.in_ok-bytes.bytes.items)
