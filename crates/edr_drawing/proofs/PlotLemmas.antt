@@ -6,7 +6,7 @@ use Rattle.edr_record.specs.Parts.{CrashPart}
 use Rattle.edr_drawing.specs.{declared.scales.Scale.Scale, declared.scales.Direction.Direction}
 use Rattle.edr_drawing.specs.declared.scales.Direction.TheVariants.{Up, Down}
 use Rattle.edr_drawing.specs.Scales.{reach_of, below_top, furthest, least_step, reach, step_of, part_of, scale_of, change_y}
-use Rattle.edr_drawing.specs.declared.scales.TheConstants.{CHANGE_LINES, CHANGE_STEPS, LAST_CHANGE_STEP}
+use Rattle.edr_drawing.specs.declared.scales.TheConstants.{CHANGE_LINES, CHANGE_STEPS}
 use Rattle.edr_drawing.specs.Laws.{IsInPlot}
 use Rattle.std.proofs.lemmas.Nat.{le-div}
 use Rattle.std.specs.Int.{next_multiple_of}
@@ -63,10 +63,11 @@ some_part : (up down step : ℕ) → 1 ≤ step → 1 ≤ part up down step up +
 some_part up down step some = grind (arith, some, scale_reaches step up some, scale_reaches step down some)
 
 -- the step between the lines is some
-some_step : (steps : List ℕ) (last most up down : ℕ) → All (λ s. 1 ≤ s) steps → 1 ≤ last → 1 ≤ least_step steps last most up down
-some_step [] last most up down all some = some
-some_step (s ∷ steps) last most up down all some =
-    grind (arith, All-head (λ (x : ℕ). 1 ≤ x) s steps all, some_step steps last most up down (All-tail (λ (x : ℕ). 1 ≤ x) s steps all) some)
+some_step : (last : ℕ) (steps : List ℕ) (most up down : ℕ) → 1 ≤ last → All (λ s. 1 ≤ s) steps → 1 ≤ least_step last steps most up down
+some_step last [] most up down some all = some
+some_step last (s ∷ steps) most up down some all =
+    let first = All-head (λ (x : ℕ). 1 ≤ x) s steps all in
+    grind (arith, first, some_step s steps most up down first (All-tail (λ (x : ℕ). 1 ≤ x) s steps all))
 
 -- a change within the reach of a crash part stands in its plot
 pub stands_in : (c : CrashPart) (v : ℤ) → reach_of Up v ≤ reach Up c → reach_of Down v ≤ reach Down c → IsInPlot (scale_of c) v
@@ -74,7 +75,7 @@ stands_in c v rises falls =
     let up = reach Up c in
     let down = reach Down c in
     let step = step_of up down in
-    let some = some_step CHANGE_STEPS LAST_CHANGE_STEP CHANGE_LINES up down (grind arith) (omega arith) in
+    let some = some_step 1 CHANGE_STEPS CHANGE_LINES up down (omega arith) (grind arith) in
     stands (scale_of c) v (some_part up down step some)
     (omega (arith, rises, part_reaches up down step up some (omega arith)))
     (omega (arith, falls, part_reaches up down step down some (omega arith)))

@@ -6,7 +6,7 @@ use Rattle.edr_drawing.specs.declared.template.Shape.{Shape}
 use Rattle.edr_drawing.specs.declared.template.Shape.TheVariants as shape
 use Rattle.edr_drawing.specs.declared.template.TheConstants.{FIELD_CLASSES, PATH, PATH_END, RADII, SWITCH_WORDS}
 use Rattle.edr_drawing.specs.declared.before.{Band.Band, ChartLane.ChartLane}
-use Rattle.edr_drawing.specs.declared.before.TheConstants.{BEFORE_END, BEFORE_HEAD, BELT, BRAKE_BAND, BRAKE_NAME, GRID_LINE, LAMP, LAST_SPEED_STEP, LONGEST_RUNS, MOMENT, PAST_SLOTS, ROOM_FOR_WORD, SECOND_SLOTS, SLOTS_APART, SPANS, SPEED, SPEED_LINES, SPEED_STEPS, TENTHS_APART, THROTTLE, THROTTLE_NAME, TIME_LINE, TIMES, ZERO_LINE}
+use Rattle.edr_drawing.specs.declared.before.TheConstants.{BEFORE_END, BEFORE_HEAD, BELT, BRAKE_BAND, BRAKE_NAME, GRID_LINE, LAMP, LONGEST_RUNS, MOMENT, PAST_SLOTS, ROOM_FOR_WORD, SECOND_SLOTS, SLOTS_APART, SPANS, SPEED, SPEED_LINES, SPEED_STEPS, TENTHS_APART, THROTTLE, THROTTLE_NAME, TIME_LINE, TIMES, ZERO_LINE}
 use Rattle.edr_drawing.specs.Template.{filled, fixed, of_profile, of_switch, seconds, shapes_bytes}
 use Rattle.edr_drawing.specs.{declared.scales.TheConstants.AXIS_DIGITS, Scales.{flat_map_below, least_step, slot_x}}
 
@@ -82,7 +82,7 @@ pub record IsChartLane (l : ChartLane) : Type 0 where
 -- the lane of speed: its top is at least 1 km/h, and it has few steps
 abbrev pub lane_up_to : ℕ → ChartLane
 lane_up_to most =
-    let step = least_step SPEED_STEPS LAST_SPEED_STEP SPEED_LINES most 0 in
+    let step = least_step 1 SPEED_STEPS SPEED_LINES most 0 in
     record SPEED { top = next_multiple_of most step; step = step }
 
 abbrev pub speed_lane : List (Option ℕ) → ChartLane

@@ -5,7 +5,7 @@ use Rattle.edr_record.specs.{Parts.CrashPart, Bounds.{point_count, window_from_e
 use Rattle.edr_record.specs.declared.{Extreme.Extreme, Profile.Profile, Profile.TheVariants.{Short, Long}}
 use Rattle.edr_report.specs.Words.{extreme_words}
 use Rattle.edr_drawing.specs.declared.scales.{Scale.Scale, CarAxis.CarAxis, CarAxis.TheVariants.{Along, Across}, Direction.Direction, Direction.TheVariants.{Up, Down}}
-use Rattle.edr_drawing.specs.declared.scales.TheConstants.{NO_SAMPLE, FIRST_TIME, TIME_SLOTS, TIME_STEP, CHANGE_LINES, CHANGE_STEPS, EARLY_SPAN, LAST_CHANGE_STEP, WHOLE_SPAN, BELOW_TOP, HEIGHT, LEFT, WIDTH}
+use Rattle.edr_drawing.specs.declared.scales.TheConstants.{NO_SAMPLE, FIRST_TIME, TIME_SLOTS, TIME_STEP, CHANGE_LINES, CHANGE_STEPS, EARLY_SPAN, WHOLE_SPAN, BELOW_TOP, HEIGHT, LEFT, WIDTH}
 
 -- that of an axis
 abbrev pub of_axis : {A : Type 0} → CarAxis → A → A → A
@@ -38,11 +38,11 @@ abbrev pub slot_x : Profile → ℕ → ℕ
 slot_x Short k = FIRST_TIME + TIME_STEP * k
 slot_x Long k = FIRST_TIME + TIME_STEP * k / TIME_SLOTS
 
--- the least of these steps with which both parts of a scale have at most `most` intervals, or else the last one
-abbrev pub least_step : List ℕ → ℕ → ℕ → ℕ → ℕ → ℕ
-least_step [] last most up down = last
-least_step (s ∷ steps) last most up down =
-    if nat_le (div_ceil up s + div_ceil down s) most then s else least_step steps last most up down
+-- the least of these steps with which both parts of a scale have at most `most` intervals, or else the last one, after the one before
+abbrev pub least_step : ℕ → List ℕ → ℕ → ℕ → ℕ → ℕ
+least_step last [] most up down = last
+least_step last (s ∷ steps) most up down =
+    if nat_le (div_ceil up s + div_ceil down s) most then s else least_step s steps most up down
 
 -- how far a change of speed is from 0 that way
 abbrev pub reach_of : Direction → ℤ → ℕ
@@ -78,7 +78,7 @@ span_of c = if nat_le c.end EARLY_SPAN && list_all is_early c.fired then EARLY_S
 
 -- the step between the lines
 abbrev pub step_of : ℕ → ℕ → ℕ
-step_of up down = least_step CHANGE_STEPS LAST_CHANGE_STEP CHANGE_LINES up down
+step_of up down = least_step 1 CHANGE_STEPS CHANGE_LINES up down
 
 -- one step both ways where nothing changes
 abbrev pub part_of : Bool → ℕ → ℕ → ℕ

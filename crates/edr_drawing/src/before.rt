@@ -237,9 +237,7 @@ pub const SPEED: ChartLane = ChartLane {
 };
 
 /// The steps in km/h that its lines may have, at most [`SPEED_LINES`] of them.
-pub const SPEED_STEPS: [u32; 3] = [10, 20, 50];
-
-pub const LAST_SPEED_STEP: u32 = 100;
+pub const SPEED_STEPS: [u32; 4] = [10, 20, 50, 100];
 
 pub const SPEED_LINES: u32 = 4;
 
@@ -262,7 +260,7 @@ fn speed_lane(slots: &[Option<u16>]) -> ChartLane
         .iter()
         .fold(0, |most: u16, slot| most.max(slot.unwrap_or(0)));
     let most = u32::from(most.max(1));
-    let step = least_step(&SPEED_STEPS, LAST_SPEED_STEP, SPEED_LINES, most, 0);
+    let step = least_step(&SPEED_STEPS, SPEED_LINES, most, 0);
     ChartLane {
         top: most.next_multiple_of(step),
         step,

@@ -116,18 +116,19 @@ pub fn slot_x(profile: Profile, k: u32) -> u32
     }
 }
 
-/// The least of these steps with which both parts of a scale have at most `most` intervals; `last` where there is none.
-pub fn least_step(steps: &[u32], last: u32, most: u32, up: u32, down: u32) -> u32
+/// The least of these steps with which both parts of a scale have at most `most` intervals, or else the last one.
+pub fn least_step(steps: &[u32], most: u32, up: u32, down: u32) -> u32
     requires steps { All (λ s. (1 ≤ s) × (s ≤ 1_000)) steps.now }
-    requires last { (1 ≤ last) × (last ≤ 1_000) }
     requires range { (up ≤ 100_000) × (down ≤ 100_000) }
-    ensures step { result ≡ least_step steps.now last most up down }
+    ensures step { result ≡ least_step 1 steps.now most up down }
     ensures range { (1 ≤ result) × (result ≤ 1_000) }
 {
+    let mut last = 1;
     for step in steps {
         if up.div_ceil(*step) + down.div_ceil(*step) <= most {
             return *step;
         }
+        last = *step;
     }
     last
 }
@@ -145,9 +146,7 @@ pub fn reach_of(way: Direction, change: i16) -> u32
 }
 
 /// The steps in km/h that the lines of a scale may have, of which both parts have at most [`CHANGE_LINES`].
-pub const CHANGE_STEPS: [u32; 7] = [5, 10, 20, 50, 100, 200, 500];
-
-pub const LAST_CHANGE_STEP: u32 = 1_000;
+pub const CHANGE_STEPS: [u32; 8] = [5, 10, 20, 50, 100, 200, 500, 1_000];
 
 pub const CHANGE_LINES: u32 = 8;
 
@@ -214,7 +213,7 @@ impl Scale {
     {
         let up = reach(Direction::Up, crash);
         let down = reach(Direction::Down, crash);
-        let step = least_step(&CHANGE_STEPS, LAST_CHANGE_STEP, CHANGE_LINES, up, down);
+        let step = least_step(&CHANGE_STEPS, CHANGE_LINES, up, down);
         let flat = up == 0 && down == 0;
         Scale {
             top: if flat {
