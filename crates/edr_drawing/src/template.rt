@@ -5,7 +5,7 @@
 //! on a sheet of A4.
 
 ghost use Rattle.std.specs.Prelude.{◌≡◌, ◌++◌, ◌≤◌, OnOk, map};
-ghost use Rattle.edr_drawing.specs.Template.{byte_bytes, either, filled, filled_if, filling_bytes, fixed, of_profile, of_switch, seconds, shape_bytes, shapes_bytes};
+ghost use Rattle.edr_drawing.specs.Template.{either, filled, filled_if, filling_bytes, fixed, of_profile, of_switch, seconds, shape_bytes, shapes_bytes};
 
 use Filling::{Number, Text};
 use edr_record::{Extreme, Place, Profile};
@@ -110,19 +110,6 @@ fn put_filling(out: &mut Vec<u8>, filling: Filling<'_>) -> Drawn
     }
 }
 
-// Appends a byte of a template, which in a hole is the number of a value.
-fn put_byte(out: &mut Vec<u8>, fillings: &[Filling<'_>], in_hole: bool, byte: u8) -> Drawn
-    ensures { OnOk result (out.new.items ≡ out.old.items ++ byte_bytes (map filling_bytes fillings.now) in_hole byte) }
-{
-    if !in_hole {
-        return out.extend_from_slice(&[byte]);
-    }
-    match fillings.get(usize::from(byte.saturating_sub(b'0'))) {
-        Some(filling) => put_filling(out, *filling),
-        None => Ok(()),
-    }
-}
-
 /// Appends a template, with these values in its holes.
 #[tactic(auto, unfolding(crate::specs::Template::filled))]
 pub fn fill(out: &mut Vec<u8>, template: &[u8], fillings: &[Filling<'_>]) -> Drawn
@@ -133,7 +120,12 @@ pub fn fill(out: &mut Vec<u8>, template: &[u8], fillings: &[Filling<'_>]) -> Dra
         match *byte {
             b'{' => in_hole = true,
             b'}' => in_hole = false,
-            other => put_byte(out, fillings, in_hole, other)?,
+            digit if in_hole => {
+                if let Some(filling) = fillings.get(usize::from(digit.saturating_sub(b'0'))) {
+                    put_filling(out, *filling)?;
+                }
+            }
+            other => out.extend_from_slice(&[other])?,
         }
     }
     Ok(())

@@ -1,10 +1,8 @@
 //! An event, read line by line: what stood before time zero, and what came after it.
 
 ghost use Rattle.std.specs.{Prelude.{◌≡◌, ◌<◌, [], ⊤, length, map, slice_index_or, IfSome, MatchOption, ◌≤◌}, Bool.MatchBool};
-ghost use Rattle.edr_reading.specs.Answers.{Reads};
-ghost use Rattle.edr_reading.specs.Reading.{HasNoBank, IsNextEvent, event_of, HasNoneFree, AcceptsEventLine, IsBank, AreSlots, AcceptsPreLine, AcceptsCrashLine, AcceptsPartLine};
-ghost use Rattle.edr_record.specs.Bounds.{IsPre, ArePoints, IsCrash, point_count};
-ghost use Rattle.edr_record.specs.declared.TheConstants.{EARLIEST_END, POINTS, RESET};
+ghost use Rattle.edr_reading.specs.{Answers.Reads, Reading.{HasNoBank, IsNextEvent, event_of, HasNoneFree, AcceptsEventLine, IsBank, AreSlots, AcceptsPreLine, AcceptsCrashLine, AcceptsPartLine}};
+ghost use Rattle.edr_record.specs.{Bounds.{IsPre, ArePoints, IsCrash, point_count}, declared.TheConstants.{EARLIEST_END, POINTS, RESET}};
 ghost use Rattle.edr_report.specs.Words.{points_words};
 
 use crate::front::{is_word, last_within};

@@ -3,8 +3,7 @@
 ghost use Rattle.std.specs.Prelude.{◌≡◌, ℕ, Bool, IfSome, List, Option, length};
 ghost use Rattle.edr_image.specs.{declared.Found.Found, Reports.Report};
 ghost use Rattle.edr_report.specs.{Lines.table_of, Report.report_lines};
-ghost use Rattle.edr_reading.specs.declared.{reading.RowFault.RowFault, event.TheConstants.EVENT_ROWS};
-ghost use Rattle.edr_reading.specs.Reading.{AreReport, IsFault, report_rows, FieldRows, event_fields, crash_texts, pre_texts};
+ghost use Rattle.edr_reading.specs.{declared.{reading.RowFault.RowFault, event.TheConstants.EVENT_ROWS}, Reading.{AreReport, IsFault, report_rows, FieldRows, event_fields, crash_texts, pre_texts}};
 ghost use Rattle.edr_spell.specs.Spell.{RecordsOf};
 ghost use Rattle.edr_record.specs.{declared.Record.Record, Bounds.IsCrash, Parts.{CrashPart, PrePart}};
 

@@ -2,8 +2,7 @@
 
 ghost use Rattle.std.specs.Prelude.{◌≡◌, ◌≢◌, ◌+◌, ◌<◌, ◌^◌, [], None, ⊤, IfErr, IfOk, IfSome, MatchBool, MatchOption, OnOk, decimal, length, map};
 ghost use Rattle.edr_image.specs.Reports.{report_of};
-ghost use Rattle.edr_reading.specs.declared.event.TheConstants.{EVENT_ROWS};
-ghost use Rattle.edr_reading.specs.Reading.{event_of, HasNoBank, HasNoneFree, IsBank, IsRecord, FieldRows, fields};
+ghost use Rattle.edr_reading.specs.{declared.event.TheConstants.EVENT_ROWS, Reading.{event_of, HasNoBank, HasNoneFree, IsBank, IsRecord, FieldRows, fields}};
 ghost use Rattle.edr_reading.specs.Reader.{AtLine, HasReadRows, MayBegin, MayHaveEvent, MayTell, Takes, TakesNamed, cycles_read, may_ack};
 ghost use Rattle.edr_reading.specs.declared.values.ToldName.TheVariants as name;
 

@@ -5,8 +5,7 @@ ghost use Rattle.csv.specs.Records.{fields_of, field_at};
 ghost use Rattle.edr_image.specs.Reports.{report_of};
 ghost use Rattle.edr_report.specs.declared.TheConstants.{LARGEST_SHOWN_COUNT};
 ghost use Rattle.edr_spell.specs.Spell.{RecordsOf};
-ghost use Rattle.edr_reading.specs.Reader.{HasReadRows, IsRefusalOfRecords, IsRowRefusal};
-ghost use Rattle.edr_reading.specs.Reading.{IsReading, OfReportRows, rows_told, fields};
+ghost use Rattle.edr_reading.specs.{Reader.{HasReadRows, IsRefusalOfRecords, IsRowRefusal}, Reading.{IsReading, OfReportRows, rows_told, fields}};
 
 use crate::reader::{NextRow, Reader, Refused};
 use csv::{ByteRecord, ReaderBuilder};

@@ -1,9 +1,7 @@
 //! The values of a report, read back.
 
-ghost use Rattle.std.specs.Fmt.{signed_decimal};
-ghost use Rattle.std.specs.Prelude.{◌≡◌, ◌≤◌, ◌∷◌, ◌++◌, ◌+◌, List, decimal, negsuc, ⊤, ℕ, Some, IfSome, MatchOption, codes, ◌<◌, ◌^◌};
-ghost use Rattle.edr_record.specs.declared.TheConstants.{EARLIEST_END, GREATEST_CHANGE, RESET};
-ghost use Rattle.edr_record.specs.Bounds.{IsChange, IsExtreme, IsPlace, IsUpTo};
+ghost use Rattle.std.specs.{Fmt.signed_decimal, Prelude.{◌≡◌, ◌≤◌, ◌∷◌, ◌++◌, ◌+◌, List, decimal, negsuc, ⊤, ℕ, Some, IfSome, MatchOption, codes, ◌<◌, ◌^◌}};
+ghost use Rattle.edr_record.specs.{declared.TheConstants.{EARLIEST_END, GREATEST_CHANGE, RESET}, Bounds.{IsChange, IsExtreme, IsPlace, IsUpTo}};
 ghost use Rattle.edr_report.specs.declared.TheConstants.{LARGEST_SHOWN_COUNT};
 ghost use Rattle.edr_report.specs.Words.{applied_words, yes_no, profile_word, switch_or_none, milliseconds, firing_words, number_shown, shown_count, events_in_crash, extreme_words, missing_words, ack_words, seconds, number_or_none, stop_words};
 ghost use Rattle.edr_reading.specs.Answers.{AreUpTo, EndsNumber, GivesValue, IsFromTo, Reads, ReadsFront, ReadsTwo, number_after, ReadsAfter, space_at, ReadsSlots};
@@ -265,10 +263,8 @@ impl SlotRead for Option<u8> {
     ghost is_slot = { IsUpTo 100 };
 
     fn in_front(bytes: &[u8]) -> Option<(Option<u8>, &[u8])> {
-        match number_or_none(bytes, 100)? {
-            (Some(per_cent), rest) => Some((Some(per_cent as u8), rest)),
-            (None, rest) => Some((None, rest)),
-        }
+        let (slot, rest) = number_or_none(bytes, 100)?;
+        Some((slot.map(|per_cent| per_cent as u8), rest))
     }
 }
 

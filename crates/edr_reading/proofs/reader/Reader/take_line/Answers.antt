@@ -3,8 +3,7 @@ use Rattle.std.proofs.Common.{◌≡◌, ◌∙◌, sym, ap, ap₂, subst, ℕ, 
 use Rattle.edr_image.specs.declared.Found.{Found}
 use Rattle.edr_report.specs.{EventWords.event_words, declared.event_lines.EventLine.{EventLine, TheVariants.Number}}
 use Rattle.edr_reading.specs.Reading.{AcceptsEventLine, EventAgrees, IsNextEvent, event_of, event_place}
-use Rattle.edr_reading.proofs.EventLemmas.{at-place, line-name, line-value, line-place, lines}
-use Rattle.edr_reading.proofs.FaultLemmas.{or-ok}
+use Rattle.edr_reading.proofs.{EventLemmas.{at-place, line-name, line-value, line-place, lines}, FaultLemmas.or-ok}
 use Rattle.edr_reading.proofs.ReadLemmas.{line-ends, line-goes, line-long, or-err}
 use Rattle.edr_reading.proofs.reader.Reader.take_line.Goals as goal
 use Rattle.edr_reading.proofs.reader.Reader.take_line.Goals.{then-line-lt-EVENT_ROWS, else-line-lt-EVENT_ROWS+in_ok-or}
