@@ -321,8 +321,7 @@ fn put_sheet(
 ) -> Drawn
     ensures { OnOk result (out.new.items ≡ out.old.items ++ sheet (numbered events.now) digest.now (numbered_one one.now)) }
 {
-    let (number, event) = (one.number, one.event);
-    let pre = &event.pre;
+    let (number, event, pre) = (one.number, one.event, &one.event.pre);
     let head = [
         Count(number),
         Text(either(event.complete(), YES_NO)),

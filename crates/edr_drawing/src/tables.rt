@@ -74,29 +74,27 @@ pub const RUN_START: &[u8] = br#"<table>
 
 /// The rows of lines of a report, without the lists that the table by time has.
 #[derive(Drop)]
-struct Rows {
-    bytes: Vec<u8>,
-}
+struct Rows(Vec<u8>);
 
 impl Lines for Rows {
     ghost use Rattle.edr_drawing.specs.Tables.{line_row};
 
     ghost ready = { λ _. Unit {0} };
 
-    ghost bytes = { λ rows. rows.bytes.items };
+    ghost bytes = { λ rows. rows.0.items };
 
     ghost form = { line_row };
 
     fn line(&mut self, _block: u64, name: &[u8], value: &[u8]) -> Drawn {
         if name == SECOND_TABLE {
-            put(&mut self.bytes, NEXT_TABLE)?;
+            put(&mut self.0, NEXT_TABLE)?;
         }
         let shown = if LISTS.contains(&name) {
             IN_TABLE
         } else {
             value
         };
-        fill(&mut self.bytes, LINE, &[Text(name), Text(shown)])
+        fill(&mut self.0, LINE, &[Text(name), Text(shown)])
     }
 }
 
@@ -146,10 +144,9 @@ pub fn put_elements(
 ) -> Drawn
     ensures { OnOk result (out.new.items ≡ out.old.items ++ elements_table number bank event.now) }
 {
-    let bytes = Vec::new(alloc);
-    let rows = print_event(alloc, Rows { bytes }, number, bank, event)?;
+    let rows = print_event(alloc, Rows(Vec::new(alloc)), number, bank, event)?;
     put(out, ELEMENTS_START)?;
-    out.extend_from_slice(&rows.bytes)?;
+    out.extend_from_slice(&rows.0)?;
     put(out, ELEMENTS_END)
 }
 
@@ -183,12 +180,11 @@ pub fn put_run(out: &mut Vec<u8>, alloc: Global, run: &[CycleReport], found: u64
     if run.is_empty() {
         return Ok(());
     }
-    let bytes = Vec::new(alloc);
-    let rows = print_run(alloc, Rows { bytes }, run)?;
+    let rows = print_run(alloc, Rows(Vec::new(alloc)), run)?;
     let taken = taken_in(run);
     let gone = Count(taken.saturating_sub(found));
     fill(out, RUN_START, &[Count(taken), Count(found), gone])?;
-    out.extend_from_slice(&rows.bytes)?;
+    out.extend_from_slice(&rows.0)?;
     put(out, TABLE_END)
 }
 
@@ -267,12 +263,11 @@ fn put_slot(out: &mut Vec<u8>, pre: &Pre, k: u32) -> Drawn
     ensures { OnOk result (out.new.items ≡ out.old.items ++ slot_row pre.now k) }
 {
     let speed = slot_at(pre.speed(), k);
-    let throttle = slot_at(pre.throttle(), k).map(u16::from);
     let brake = Text(of_switch(slot_at(pre.brake(), k), SWITCH_WORDS));
     let tenths = slot_tenths(pre.profile(), k);
     let (sign, time) = (Text(either(0 < tenths, MINUS)), Seconds(tenths.into()));
     let (kmh, miles) = (number_word(speed), number_word(mph(speed)));
-    let throttle = number_word(throttle);
+    let throttle = number_word(slot_at(pre.throttle(), k).map(u16::from));
     fill(out, SLOT_ROW, &[sign, time, kmh, miles, throttle, brake])
 }
 
@@ -299,8 +294,7 @@ pub fn put_by_time(out: &mut Vec<u8>, number: u64, pre: &Pre) -> Drawn
     let class = Text(of_profile(profile, PROFILES));
     let span = Text(of_profile(profile, SPANS));
     fill(out, BY_TIME_START, &[Count(number), class, span])?;
-    let (count, _) = blocks_of(profile);
-    for part in 0..count {
+    for part in 0..blocks_of(profile).0 {
         put_block(out, pre, part)?;
     }
     put(out, BY_TIME_END)

@@ -1,8 +1,7 @@
 //! The top call: from the bytes of a report to those of its page.
 ghost use Rattle.std.specs.Prelude.{◌≡◌, ◌≢◌, ◌⊎◌, ◌≤◌, ◌+◌, IfOk, IfErr};
 ghost use Rattle.edr_device.specs.{Told.{Told}, Transfer.{GivesAtMost}};
-ghost use Rattle.edr_picture.specs.Pages.{AnswerIs, Fails, GainsPart, GainsText, HasNone, IsDrawn, IsTextFor, OfReport};
-ghost use Rattle.edr_picture.specs.Pages.{OnInput, WritesText, WritesPart, fault_line, largest_report};
+ghost use Rattle.edr_picture.specs.Pages.{AnswerIs, Fails, GainsPart, GainsText, HasNone, IsDrawn, IsTextFor, OfReport, OnInput, WritesText, WritesPart, fault_line, largest_report};
 
 use crate::asked::{Asked, HELP, version_line};
 use crate::faults::{PageFault, PageStatus};

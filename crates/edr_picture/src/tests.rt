@@ -2,8 +2,8 @@
 
 use crate::asked::{Asked, HELP, version_line};
 use crate::draws::draw;
-use crate::faults::PageStatus::{Done, Faulty, WriteFault};
-use crate::faults::{PageFault, PageStatus};
+use crate::faults::PageFault;
+use crate::faults::PageStatus::{self, Done, Faulty, WriteFault};
 use edr_device::{MemSink, MemSource};
 use edr_reading::RowFault::{self, Field, Fields, Unended};
 use std::process::Abort;
