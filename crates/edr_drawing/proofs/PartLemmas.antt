@@ -11,7 +11,7 @@ use Rattle.edr_drawing.specs.{declared.Origin.Origin, Page.{NumberedRecord, even
 use Rattle.edr_drawing.specs.Scales.{flat_map_below}
 use Rattle.edr_drawing.specs.Tables.{row, row_of, line_row, elements_table, run_table, block, blocks_of, by_time, slot_row}
 use Rattle.edr_drawing.proofs.ListLemmas.{run_rows}
-use Rattle.edr_drawing.specs.Laws.{HasPlace, HasSlotRows, IsInOnePiece, OfEvents, shown_row}
+use Rattle.edr_drawing.specs.Laws.{HasPlaceFact, HasSlotRows, IsInOnePiece, OfEvents, shown_row}
 
 -- the bytes stand in the others, in one piece
 pub record Piece (part whole : List ℕ) : Type 0 where
@@ -144,7 +144,7 @@ slots_on_page reports found origin e among k within =
 
 -- ---- the place of an event in its crash
 
-pub places_on_page : (reports : List Report) (found : List Found) (origin : Origin) → OfEvents found (λ p. HasPlace found p (page_bytes reports found origin))
+pub places_on_page : (reports : List Report) (found : List Found) (origin : Origin) → OfEvents found (λ p. HasPlaceFact found p (page_bytes reports found origin))
 unfolding sheet
 places_on_page reports found origin e among =
     let there = has_number 1 (found_records found) e among in

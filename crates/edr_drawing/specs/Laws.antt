@@ -32,8 +32,8 @@ abbrev pub OfEvents : List Found → (PrePart → Type 0) → Type 0
 OfEvents found says = (e : ℕ × Record) → Contains (found_records found) e → says e.1.pre
 
 -- what its sheet says of an event's place stands there
-abbrev pub HasPlace : List Found → PrePart → List ℕ → Type 0
-HasPlace found p page = IsInOnePiece (place_fact (events_of found) p.key p.place) page
+abbrev pub HasPlaceFact : List Found → PrePart → List ℕ → Type 0
+HasPlaceFact found p page = IsInOnePiece (place_fact (events_of found) p.key p.place) page
 
 -- an event with this pre part may be the first one of the pair whose second has this key, and began so long after it: it was told
 -- as first, of an ignition cycle that is shown as the same, and as many tenths of a second before it, at most 5 s

@@ -6,7 +6,7 @@ ghost use Rattle.edr_report.specs.Report.{events_lines, found_records, run_lines
 ghost use Rattle.edr_image.specs.declared.Found.{Found};
 ghost use Rattle.edr_drawing.specs.declared.{before.ChartLane.ChartLane, scales.{CarAxis.CarAxis, Scale.Scale}};
 ghost use Rattle.edr_drawing.specs.{Before.lane_y, Scales.{change_y, is_silent, scale_of, span_of}, Tables.{by_time, row_of}};
-ghost use Rattle.edr_drawing.specs.Laws.{AreFirsts, HasMarks, HasNoCurve, HasPlace, HasPoints, HasRows, HasSlotRows, IsInPlot, IsTimeInPlot, OfEvents, OfPages, shown_row};
+ghost use Rattle.edr_drawing.specs.Laws.{AreFirsts, HasMarks, HasNoCurve, HasPlaceFact, HasPoints, HasRows, HasSlotRows, IsInPlot, IsTimeInPlot, OfEvents, OfPages, shown_row};
 
 /// Each line of an event, and each line of a cycle, has its row on the page, word for word; but the lists of speed,
 /// throttle and service brake stand in the table by time.
@@ -25,7 +25,7 @@ pub fn each_slot()
 
 /// The sheet of a second event names each event of the report that may be the first one of its pair, and no other.
 pub fn each_first()
-    ensures page { OfPages (λ reports found digest page. OfEvents found (λ p. HasPlace found p page)) }
+    ensures page { OfPages (λ reports found digest page. OfEvents found (λ p. HasPlaceFact found p page)) }
     ensures firsts { (found : List Found) (key : Key) (after : ℕ) → AreFirsts found key after }
 {}
 

@@ -10,7 +10,7 @@ use Rattle.edr_report.specs.{Words.{applied_words, shown_count}, declared.TheCon
 use Rattle.edr_reading.specs.declared.{event.PartEvent.PartEvent, reader.{Refused.Refused, NextRow.NextRow, Reader.Reader}}
 use Rattle.edr_reading.specs.declared.values.{CycleRow.CycleRow, ToldName.ToldName}
 use Rattle.edr_reading.specs.Reading.{HasNoBank, IsNextEvent, event_of, ReportGoesOn, AreReport, IsCycleRow, IsToldName, banks_in, name_words, row_words, IsReport, IsDamaged, IsApplied, IsBank, IsDamagedView, view_words, IsRecord, AreDistinct, head_row, FieldRows}
-use Rattle.edr_reading.specs.Reader.{AtLine, HasReadRows, IsBetween, IsOnlyName, IsRefused, MayBegin, MayHaveEvent, MayTell, StandsNext, Takes, cycles_read, last_cycle, may_ack, MayFollow, whole}
+use Rattle.edr_reading.specs.Reader.{AtLine, HasReadRows, IsBetween, IsOnlyName, IsRefused, MayBegin, MayHaveEvent, MayTell, StandsNext, TakesRow, cycles_read, last_cycle, may_ack, MayFollow, whole}
 use Rattle.edr_reading.specs.declared.values.CycleRow.TheVariants as row
 use Rattle.edr_reading.specs.declared.values.ToldName.TheVariants as name
 use Rattle.edr_reading.specs.declared.reader.NextRow.TheVariants as next
@@ -287,7 +287,7 @@ or-err None e x is n = cc
 or-err (Some y) e x is n = cc
 
 -- a reader that took a row after such rows took it after others that are such
-pub takes-from : {A B : FieldRows → Type 0} (new : Reader) (row : List (List ℕ)) (res : Result Unit Refused) → Takes A new row res → ((rows : FieldRows) → B rows → A rows) → Takes B new row res
+pub takes-from : {A B : FieldRows → Type 0} (new : Reader) (row : List (List ℕ)) (res : Result Unit Refused) → TakesRow A new row res → ((rows : FieldRows) → B rows → A rows) → TakesRow B new row res
 takes-from new row (Ok u) t a = λ rows h. t rows (a rows h)
 takes-from new row (Err x) t a = λ rows h. t rows (a rows h)
 

@@ -120,9 +120,9 @@ IsRefused rows row (refused.Field f) = (more : FieldRows) → IsWrong rows (row 
 IsRefused rows row refused.OutOfMemory = ⊤
 
 -- a reader that had read such rows took a row, or refused it as the first with which no report goes on
-abbrev pub Takes : (FieldRows → Type 0) → Reader → List (List ℕ) → Result Unit Refused → Type 0
-Takes Had new row (Ok u) = (rows : FieldRows) → Had rows → HasReadRows new (rows ++ row ∷ [])
-Takes Had new row (Err e) = (rows : FieldRows) → Had rows → IsRefused rows row e
+abbrev pub TakesRow : (FieldRows → Type 0) → Reader → List (List ℕ) → Result Unit Refused → Type 0
+TakesRow Had new row (Ok u) = (rows : FieldRows) → Had rows → HasReadRows new (rows ++ row ∷ [])
+TakesRow Had new row (Err e) = (rows : FieldRows) → Had rows → IsRefused rows row e
 
 -- ---- rows of block 0
 
@@ -151,7 +151,7 @@ pub record IsOnlyName (r : Reader) (w : List ℕ) (x : ToldName) : Type 0 where
 
 -- a row of block 0 with this name and value is taken, or refused
 abbrev pub TakesNamed : ToldName → List ℕ → Reader → Reader → Result Unit Refused → Type 0
-TakesNamed x value old new res = (w : List ℕ) → IsOnlyName old w x → Takes (HasReadRows old) new (decimal 0 ∷ w ∷ value ∷ []) res
+TakesNamed x value old new res = (w : List ℕ) → IsOnlyName old w x → TakesRow (HasReadRows old) new (decimal 0 ∷ w ∷ value ∷ []) res
 
 -- ---- rows of an event
 

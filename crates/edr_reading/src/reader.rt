@@ -3,7 +3,7 @@
 ghost use Rattle.std.specs.Prelude.{◌≡◌, ◌≢◌, ◌+◌, ◌<◌, ◌^◌, [], None, ⊤, IfErr, IfOk, IfSome, MatchBool, MatchOption, OnOk, decimal, length, map};
 ghost use Rattle.edr_image.specs.Reports.{report_of};
 ghost use Rattle.edr_reading.specs.{declared.event.TheConstants.EVENT_ROWS, Reading.{event_of, HasNoBank, HasNoneFree, IsBank, IsRecord, FieldRows, fields}};
-ghost use Rattle.edr_reading.specs.Reader.{AtLine, HasReadRows, MayBegin, MayHaveEvent, MayTell, Takes, TakesNamed, cycles_read, may_ack};
+ghost use Rattle.edr_reading.specs.Reader.{AtLine, HasReadRows, MayBegin, MayHaveEvent, MayTell, TakesRow, TakesNamed, cycles_read, may_ack};
 ghost use Rattle.edr_reading.specs.declared.values.ToldName.TheVariants as name;
 
 use crate::event::{EVENT_ROWS, PartEvent, event_line, free_bank, is_among, line_at, plain_pre};
@@ -144,7 +144,7 @@ impl Reader {
     fn take_head(&mut self, row: &ReportRow<'_>) -> Result<(), Refused>
         requires rows { self.old.rows + 1 < 2 ^ 32 }
         requires head { self.old.next ≡ NextRow.Head }
-        ensures { Takes (HasReadRows self.old) self.new (fields row.now) result }
+        ensures { TakesRow (HasReadRows self.old) self.new (fields row.now) result }
     {
         if !is_word(row.block, b"block") {
             return Err(Refused::Field(1));
@@ -205,7 +205,7 @@ impl Reader {
         requires read { (rows : FieldRows) × HasReadRows self.old rows }
         requires between { MayBegin self.old.next }
         requires block { row.now.block.now ≡ decimal 0 }
-        ensures { Takes (HasReadRows self.old) self.new (fields row.now) result }
+        ensures { TakesRow (HasReadRows self.old) self.new (fields row.now) result }
     {
         match told_name(row.name, self.cycles()) {
             Some(name) if self.may_tell(name) => self.take_named(alloc, name, row.value),
@@ -244,7 +244,7 @@ impl Reader {
     ) -> Result<(), Refused>
         requires read { (rows : FieldRows) × AtLine self.old line (event_of event.now) rows }
         requires block { row.now.block.now ≡ decimal (length self.old.found.items + 1) }
-        ensures { Takes (AtLine self.old line (event_of event.now)) self.new (fields row.now) result }
+        ensures { TakesRow (AtLine self.old line (event_of event.now)) self.new (fields row.now) result }
     {
         let (name, what) = line_at(&LINES_OF_EVENT, line);
         if !is_word(row.name, name.as_bytes()) {
@@ -273,7 +273,7 @@ impl Reader {
         requires read { (rows : FieldRows) × HasReadRows self.old rows }
         requires between { MayBegin self.old.next }
         requires block { row.now.block.now ≢ decimal 0 }
-        ensures { Takes (HasReadRows self.old) self.new (fields row.now) result }
+        ensures { TakesRow (HasReadRows self.old) self.new (fields row.now) result }
     {
         let bank = self.bank_of_next().ok_or(Refused::Field(1))?;
         let block = self.block();
@@ -289,7 +289,7 @@ impl Reader {
     /// Takes one row more, or answers the first of its fields with which no report goes on.
     pub(crate) fn take(&mut self, alloc: Global, row: &ReportRow<'_>) -> Result<(), Refused>
         requires { (rows : FieldRows) × HasReadRows self.old rows }
-        ensures { Takes (HasReadRows self.old) self.new (fields row.now) result }
+        ensures { TakesRow (HasReadRows self.old) self.new (fields row.now) result }
     {
         match self.next {
             NextRow::Head => self.take_head(row),

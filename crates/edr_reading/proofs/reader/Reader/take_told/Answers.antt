@@ -1,5 +1,5 @@
 use Rattle.std.proofs.{Common.{◌∙◌, sym, ap, subst, ℕ, List, [], ◌∷◌}, lemmas.Option.same_Some}
-use Rattle.edr_reading.specs.{Reader.{HasReadRows, IsRefused, MayTell, Takes}, Reading.name_words}
+use Rattle.edr_reading.specs.{Reader.{HasReadRows, IsRefused, MayTell, TakesRow}, Reading.name_words}
 use Rattle.edr_reading.specs.declared.reader.Refused.TheVariants as refused
 use Rattle.edr_reading.proofs.ReadLemmas.{name-refused}
 use Rattle.edr_reading.proofs.reader.Reader.take_told.Goals as goal
@@ -9,7 +9,7 @@ returns-in-Some c =
     let row = c.args.row.now in
     let read = c.in-Some.ensures in
     let name = c.in-Some.name in
-    subst (λ (b : List ℕ). Takes (HasReadRows c.args.self.now) c.take_named.new.self (b ∷ row.name.now ∷ row.value.now ∷ []) c.take_named.result) (sym c.requires.block)
+    subst (λ (b : List ℕ). TakesRow (HasReadRows c.args.self.now) c.take_named.new.self (b ∷ row.name.now ∷ row.value.now ∷ []) c.take_named.result) (sym c.requires.block)
     (c.take_named.ensures row.name.now (record {
       begins = c.requires.between;
       may = c.if-may_tell.ensures;
