@@ -4,7 +4,7 @@ use Rattle.std.specs.Prelude.{◌≡◌, ◌≢◌, ◌<◌, ◌≤◌, ◌+◌,
 use Rattle.edr_record.specs.declared.Record.{Record}
 use Rattle.edr_image.specs.{declared.{Ack.Ack, Found.Found}, Banks.found_event, Reports.{Report, StartStopped, Ran, report_of}}
 use Rattle.edr_report.specs.declared.TheConstants.{LARGEST_SHOWN_COUNT}
-use Rattle.edr_reading.specs.declared.{reader.{NextRow.NextRow, Reader.Reader, Refused.Refused}, values.CycleRow.CycleRow}
+use Rattle.edr_reading.specs.declared.{reader.{NextRow.NextRow, Reader.Reader, Refused.Refused, TheConstants.MOST_ROWS}, values.CycleRow.CycleRow}
 use Rattle.edr_reading.specs.declared.{values.ToldName.ToldName, event.{PartEvent.PartEvent, TheConstants.EVENT_ROWS}}
 use Rattle.edr_reading.specs.declared.reading.{ReportRefused.{ReportRefused, TheVariants.{Fault, OutOfMemory}}}
 use Rattle.edr_reading.specs.Reading.{EventAgrees, HasNoBank, IsNextEvent, event_of, AreReport, IsWrong, IsFault, IsAck, IsDamaged, IsEvent, IsReport, IsToldName, ack_fields, banks_in, count_fields, damaged_fields, events_fields, last_rows, name_words, run_fields, AreDistinct, head_row, FieldRows, event_fields}
@@ -75,7 +75,7 @@ cycles_read r = map report_of r.run.items ++ last_cycle r.last r.acks.items
 pub record IsBetween (has_acks has_cycles has_events : Bool) (reports : List Report) (es : List (ℕ × Record)) (ds : List Found) (rows : FieldRows) : Type 0 where
   pub told : IsToldReport reports es ds
   pub are : rows ≡ whole reports es ds
-  pub short : length rows + 1 ≤ 4_294_967_294
+  pub short : length rows + 1 ≤ MOST_ROWS
   pub rest : (more : FieldRows) → AreReport (rows ++ more) → MayFollow has_acks has_cycles has_events (length reports) (length es + 1) (banks_in (map found_event es ++ ds)) more
 
 -- these rows were read, and in the event's block its line in place k may follow
@@ -84,7 +84,7 @@ pub record IsInside (k : ℕ) (e : ℕ × Record) (reports : List Report) (es : 
   pub told : IsToldReport reports es []
   pub event : IsNextEvent (map found_event es) e
   pub are : rows ≡ whole reports es [] ++ take k (event_fields (length es + 1) e.0 e.1)
-  pub short : length rows + (EVENT_ROWS + 1) ≤ 4_294_967_294 + k
+  pub short : length rows + (EVENT_ROWS + 1) ≤ MOST_ROWS + k
   pub rest : (row : List (List ℕ)) (more : FieldRows) → slice_index_or row 0 [] ≡ decimal (length es + 1) → AreReport (rows ++ row ∷ more)
       → MayFollowLine k (length es + 1) (banks_in (map found_event es)) e (row ∷ more)
 
@@ -103,14 +103,14 @@ StandsNext next.Damaged last reports found rows =
     (es : List (ℕ × Record)) × (ds : List Found) × (found ≡ map found_event es ++ ds) × IsBetween false false false reports es ds rows
 StandsNext (next.Nothing n) last reports found rows =
     (es : List (ℕ × Record)) × (ds : List Found) × (found ≡ map found_event es ++ ds) × IsToldReport reports es ds
-    × (rows ≡ whole reports es ds ++ count_fields n ∷ []) × (length rows ≤ 4_294_967_294) × ((more : FieldRows) → AreReport (rows ++ more) → more ≡ []) × (n ≤ LARGEST_SHOWN_COUNT)
+    × (rows ≡ whole reports es ds ++ count_fields n ∷ []) × (length rows ≤ MOST_ROWS) × ((more : FieldRows) → AreReport (rows ++ more) → more ≡ []) × (n ≤ LARGEST_SHOWN_COUNT)
 
 -- the reader has read these rows
 pub record HasReadRows (r : Reader) (rows : FieldRows) : Type 0 where
   pub count : r.rows ≡ length rows
   pub few : length (cycles_read r) + length r.found.items ≤ length rows
   pub few_acks : length r.acks.items ≤ length rows
-  pub short : length rows ≤ 4_294_967_294
+  pub short : length rows ≤ MOST_ROWS
   pub first : r.last ≡ None → r.run.items ≡ []
   pub stands : StandsNext r.next r.last (cycles_read r) r.found.items rows
 
@@ -132,7 +132,7 @@ MayBegin n = (n ≢ next.Head) × ((k : ℕ) (e : PartEvent) → n ≢ next.Line
 
 -- there is room for one row more and the count
 abbrev pub HasRowsLeft : Reader → Type 0
-HasRowsLeft r = r.rows + 2 ≤ 4_294_967_294
+HasRowsLeft r = r.rows + 2 ≤ MOST_ROWS
 
 -- a row with this name may be next
 abbrev pub MayTell : Reader → ToldName → Type 0
@@ -157,7 +157,7 @@ TakesNamed x value old new res = (w : List ℕ) → IsOnlyName old w x → Takes
 
 -- an event may be next, if there is a bank for it
 abbrev pub MayHaveEvent : Reader → Type 0
-MayHaveEvent r = ((r.next ≡ next.Run) ⊎ (r.next ≡ next.Events)) × (r.rows + (EVENT_ROWS + 1) ≤ 4_294_967_294)
+MayHaveEvent r = ((r.next ≡ next.Run) ⊎ (r.next ≡ next.Events)) × (r.rows + (EVENT_ROWS + 1) ≤ MOST_ROWS)
 
 -- the reader has read these rows, and this line of an event may be next
 pub record AtLine (r : Reader) (k : ℕ) (e : ℕ × Record) (rows : FieldRows) : Type 0 where

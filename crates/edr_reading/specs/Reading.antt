@@ -12,7 +12,7 @@ use Rattle.edr_report.specs.Words.{damage_words, stop_words, events_in_crash, ti
 use Rattle.edr_report.specs.declared.event_lines.PreLine.TheVariants as pre
 use Rattle.edr_report.specs.declared.event_lines.CrashLine.TheVariants as crash
 use Rattle.edr_reading.specs.declared.reading.{ReportRow.ReportRow, Reading.Reading, RowFault.RowFault}
-use Rattle.edr_reading.specs.declared.{reading.RowFault.TheVariants.{Fields, Field, Unended}, values.CycleRow.CycleRow}
+use Rattle.edr_reading.specs.declared.{reading.RowFault.TheVariants.{Fields, Field, Unended}, reader.TheConstants.MOST_ROWS, values.CycleRow.CycleRow}
 use Rattle.edr_reading.specs.declared.{values.ToldName.ToldName, event.{PartEvent.PartEvent, TheConstants.EVENT_ROWS}}
 use Rattle.edr_reading.specs.Answers.{IsFromTo}
 use Rattle.edr_reading.specs.declared.values.ToldName.TheVariants as name
@@ -237,6 +237,10 @@ AcceptsPreLine l value old result =
 
 -- ---- after time zero
 
+-- which of the lines of an event is the first of these, and all that come after it but the last one
+abbrev pub first_after : ℕ
+first_after = 13
+
 -- the place of a line among them
 abbrev pub crash_place : CrashLine → ℕ
 crash_place crash.End = 0
@@ -253,7 +257,7 @@ abbrev pub first_texts : CrashPart → Texts
 first_texts c = map (crash_words c) (crash.End ∷ crash.Along ∷ crash.Across ∷ crash.MaxAlong ∷ crash.MaxAcross ∷ crash.ResultAt ∷ crash.Missing ∷ [])
 
 abbrev pub crash_texts : Option CrashPart → Texts
-crash_texts None = replicate 15 none_word
+crash_texts None = replicate (EVENT_ROWS - 1 - first_after) none_word
 crash_texts (Some c) = first_texts c ++ map firing_words c.fired
 
 -- what a line shows where the part may be absent
@@ -301,7 +305,7 @@ abbrev pub event_place : EventLine → ℕ
 event_place Number = 0
 event_place Bank = 1
 event_place (Before l) = 2 + pre_place l
-event_place (After l) = 13 + crash_place l
+event_place (After l) = first_after + crash_place l
 event_place Complete = EVENT_ROWS - 1
 
 -- what its lines show, in their order
@@ -313,7 +317,7 @@ event_texts block e =
 pub record EventAgrees (k : ℕ) (e f : ℕ × Record) : Type 0 where
   pub bank : 2 ≤ k → e.0 ≡ f.0
   pub before : PreAgrees (k - 2) e.1.pre f.1.pre
-  pub after : PartsAgree (k - 13) e.1.crash f.1.crash
+  pub after : PartsAgree (k - first_after) e.1.crash f.1.crash
 
 -- a line of an event in this block is taken, which is in none of the banks found
 abbrev pub AcceptsEventLine : ℕ → List Found → EventLine → List ℕ → PartEvent → Option PartEvent → Type 0
@@ -346,7 +350,7 @@ pub record IsReading (reports : List Report) (banks : List Found) (n : ℕ) : Ty
   pub run : All IsReport reports
   pub found : (events : List (ℕ × Record)) × (damaged : List Found) × (banks ≡ map found_event events ++ damaged) × All IsEvent events × All IsDamaged damaged
   pub distinct : AreDistinct banks
-  pub short : length (report_rows reports banks n) ≤ 4_294_967_294
+  pub short : length (report_rows reports banks n) ≤ MOST_ROWS
 
 -- whatever report the rows are of, this is so
 abbrev pub OfReportRows : (FieldRows → Type 0) → Type 0 → Type 0

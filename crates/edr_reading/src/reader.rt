@@ -15,8 +15,8 @@ use edr_record::{Crash, Record};
 use edr_report::LINES_OF_EVENT;
 use std::alloc::{AllocError as OutOfMemory, Global};
 
-// A report has no more rows.
-const MOST_ROWS: u32 = 4_294_967_294;
+/// A report has no more rows.
+pub const MOST_ROWS: u32 = 4_294_967_294;
 
 /// Why a row is not taken.
 #[derive(Clone, Copy, Debug, PartialEq, Eq)]
